@@ -1,0 +1,4 @@
+pub mod ClusterShape
+pub mod Outside
+pub mod Shape
+pub mod Wide
