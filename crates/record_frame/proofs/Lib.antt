@@ -1,0 +1,5 @@
+pub mod FieldLaws
+pub mod Reasons
+pub mod EntryLaws
+pub mod LengthLaws
+pub mod ValueLaws
