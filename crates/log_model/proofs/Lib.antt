@@ -1,0 +1,10 @@
+pub mod Appending
+pub mod Coverage
+pub mod Frozen
+pub mod Growth
+pub mod NoEffect
+pub mod Position
+pub mod Runs
+pub mod Spelled
+pub mod States
+pub mod Times

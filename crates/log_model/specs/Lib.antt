@@ -1,0 +1,4 @@
+pub mod Chain
+pub mod Lookup
+pub mod Places
+pub mod Spelling
