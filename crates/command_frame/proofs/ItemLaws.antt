@@ -1,0 +1,158 @@
+-- What is read from a body is spelled so, and what is spelled is read again.
+use Rattle.std.proofs.Common.{◌≡◌, ℕ, ◌<◌, ◌≤◌, ◌^◌, Bool, true, false, ◌&&◌, List, [], ◌∷◌, ◌++◌, length, drop, get_or, ltb, leb, eqb, cond, Some, None, refl, sym, ap, ◌∙◌, subst, append-nil, arith}
+use Rattle.std.proofs.lemmas.Bool.{and_parts, and_from, ltb-true, leb-true, eqb-true, lt-ltb, le-leb, eq-eqb, cond-true}
+use Rattle.std.proofs.lemmas.Option.{cond_some}
+use Rattle.std.proofs.lemmas.List.{length-drop, take_all}
+use Rattle.log_base.specs.ClusterShape.{Shape, InRange}
+use Rattle.log_base.specs.Wide.{IsBytes, be2, be8, number2, number8}
+use Rattle.log_base.proofs.Wide.{length-be8, number2-be2, number8-be8, be2-number2, be8-number8, number8-lt, IsBytes-drop}
+use Rattle.command_frame.specs.declared.items.Item.{Item}
+use Rattle.command_frame.specs.declared.items.Item.TheVariants.{Append, Read, Add}
+use Rattle.command_frame.specs.Items.{item_kind, item_body, IsItem, Spells}
+use Rattle.command_frame.specs.Reading.{names_shard, names_replica, append_of, read_of, add_of, item_of}
+
+-- ---- what is read is spelled so
+
+three_front : (body : List ℕ) → IsBytes body → length body ≡ 3 → body ≡ get_or body 0 0 ∷ be2 (number2 body 1)
+three_front [] h l = absurd (omega arith)
+three_front (a ∷ []) h l = absurd (omega arith)
+three_front (a ∷ b ∷ []) h l = absurd (omega arith)
+three_front (a ∷ b ∷ c ∷ []) h l = ap (λ (two : List ℕ). a ∷ two) (sym (be2-number2 (a ∷ b ∷ c ∷ []) 1 h (omega arith)))
+three_front (a ∷ b ∷ c ∷ d ∷ rest) h l = absurd (omega arith)
+
+four_front : (body : List ℕ) → IsBytes body → 4 ≤ length body → body ≡ get_or body 0 0 ∷ be2 (number2 body 1) ++ get_or body 3 0 ∷ drop 4 body
+four_front [] h l = absurd (omega arith)
+four_front (a ∷ []) h l = absurd (omega arith)
+four_front (a ∷ b ∷ []) h l = absurd (omega arith)
+four_front (a ∷ b ∷ c ∷ []) h l = absurd (omega arith)
+four_front (a ∷ b ∷ c ∷ d ∷ rest) h l = ap (λ (two : List ℕ). a ∷ two ++ d ∷ rest) (sym (be2-number2 (a ∷ b ∷ c ∷ d ∷ rest) 1 h (omega arith)))
+
+eight_rest : (body : List ℕ) → IsBytes body → length body ≡ 12 → drop 4 body ≡ be8 (number8 body 4)
+eight_rest body h l =
+    sym (be8-number8 body 4 h (omega arith) ∙ take_all 8 (drop 4 body) (omega (arith, length-drop 4 body)))
+
+append_takes : (c : Shape) (body : List ℕ) (item : Item) → IsBytes body → append_of c body ≡ Some item → Spells c 1 body item
+unfolding append_of
+append_takes c body item h e =
+    let found = cond_some (leb 4 (length body) && leb (length body) 65539 && names_replica c body) _ _ e in
+    let long = and_parts (leb 4 (length body) && leb (length body) 65539) _ found.0 in
+    let size = and_parts (leb 4 (length body)) _ long.0 in
+    let named = and_parts (names_shard c body) _ long.1 in
+    let lane = and_parts (ltb (get_or body 0 0) 64) _ named.0 in
+    let four : 4 ≤ length body = leb-true 4 _ size.0 in
+    let most : length body ≤ 65539 = leb-true _ 65539 size.1 in
+    let record_size : length (drop 4 body) ≤ 65535 = omega (arith, length-drop 4 body) in
+    subst (Spells c 1 body) found.1 (record {
+      of_kind = refl;
+      with_body = four_front body h four;
+      is_item = (ltb-true _ 64 lane.0, ltb-true _ _ lane.1, ltb-true _ _ named.1, record_size, IsBytes-drop 4 body h);
+    })
+
+read_takes : (c : Shape) (body : List ℕ) (item : Item) → IsBytes body → read_of c body ≡ Some item → Spells c 2 body item
+unfolding read_of
+read_takes c body item h e =
+    let found = cond_some (eqb (length body) 12 && names_replica c body) _ _ e in
+    let long = and_parts (eqb (length body) 12) _ found.0 in
+    let named = and_parts (names_shard c body) _ long.1 in
+    let lane = and_parts (ltb (get_or body 0 0) 64) _ named.0 in
+    let twelve : length body ≡ 12 = eqb-true _ 12 long.0 in
+    let front = four_front body h (omega arith) ∙ ap (λ (l : List ℕ). get_or body 0 0 ∷ be2 (number2 body 1) ++ get_or body 3 0 ∷ l) (eight_rest body h twelve) in
+    subst (Spells c 2 body) found.1 (record {
+      of_kind = refl;
+      with_body = front;
+      is_item = (ltb-true _ 64 lane.0, ltb-true _ _ lane.1, ltb-true _ _ named.1, number8-lt body 4 h);
+    })
+
+add_takes : (c : Shape) (body : List ℕ) (item : Item) → IsBytes body → add_of c body ≡ Some item → Spells c 5 body item
+unfolding add_of
+add_takes c body item h e =
+    let found = cond_some (eqb (length body) 3 && names_shard c body) _ _ e in
+    let long = and_parts (eqb (length body) 3) _ found.0 in
+    let lane = and_parts (ltb (get_or body 0 0) 64) _ long.1 in
+    subst (Spells c 5 body) found.1 (record {
+      of_kind = refl;
+      with_body = three_front body h (eqb-true _ 3 long.0);
+      is_item = (ltb-true _ 64 lane.0, ltb-true _ _ lane.1);
+    })
+
+pub item_takes : (c : Shape) (kind : ℕ) (body : List ℕ) (item : Item) → IsBytes body → item_of c kind body ≡ Some item → Spells c kind body item
+unfolding item_of
+item_takes c kind body item h e = first (eqb kind 1) (eqb-true kind 1) e
+  where
+    third : (is_add : Bool) → (is_add ≡ true → kind ≡ 5) → cond is_add (add_of c body) None ≡ Some item → Spells c kind body item
+    third true k e = subst (λ (n : ℕ). Spells c n body item) (sym (k refl)) (add_takes c body item h e)
+    third false k e = cc
+
+    second : (is_read : Bool) → (is_read ≡ true → kind ≡ 2) → cond is_read (read_of c body) (cond (eqb kind 5) (add_of c body) None) ≡ Some item
+        → Spells c kind body item
+    second true k e = subst (λ (n : ℕ). Spells c n body item) (sym (k refl)) (read_takes c body item h e)
+    second false k e = third (eqb kind 5) (eqb-true kind 5) e
+
+    first : (is_append : Bool) → (is_append ≡ true → kind ≡ 1)
+        → cond is_append (append_of c body) (cond (eqb kind 2) (read_of c body) (cond (eqb kind 5) (add_of c body) None)) ≡ Some item
+        → Spells c kind body item
+    first true k e = subst (λ (n : ℕ). Spells c n body item) (sym (k refl)) (append_takes c body item h e)
+    first false k e = second (eqb kind 2) (eqb-true kind 2) e
+
+-- ---- what is spelled is read again
+
+names_shard_again : (c : Shape) (lane shard : ℕ) (rest : List ℕ) → InRange c → lane < 64 → shard < c.shards
+    → (number2 (lane ∷ be2 shard ++ rest) 1 ≡ shard) × (names_shard c (lane ∷ be2 shard ++ rest) ≡ true)
+names_shard_again c lane shard rest range l s =
+    let some = range.shards in
+    let same : number2 (lane ∷ be2 shard ++ rest) 1 ≡ shard = number2-be2 shard 1 (lane ∷ []) rest refl (omega arith) in
+    (same, and_from _ _ (lt-ltb lane 64 l) (lt-ltb _ _ (subst (λ (n : ℕ). n < c.shards) (sym same) s)))
+
+append_found : (c : Shape) (body : List ℕ) → 4 ≤ length body → length body ≤ 65539 → names_replica c body ≡ true
+    → append_of c body ≡ Some (Append (get_or body 0 0) (record { 0 = number2 body 1 }) (record { 0 = get_or body 3 0 }) (drop 4 body))
+unfolding append_of
+append_found c body least most named =
+    cond-true (leb 4 (length body) && leb (length body) 65539 && names_replica c body) _ _ (and_from _ _ (and_from _ _ (le-leb 4 (length body) least) (le-leb (length body) 65539 most)) named)
+
+append_again : (c : Shape) (lane shard replica : ℕ) (bytes : List ℕ) → InRange c → lane < 64 → shard < c.shards → replica < c.replicas
+    → length bytes ≤ 65535
+    → append_of c (lane ∷ be2 shard ++ replica ∷ bytes) ≡ Some (Append lane (record { 0 = shard }) (record { 0 = replica }) bytes)
+unfolding be2
+append_again c lane shard replica bytes range l s r size =
+    let named = names_shard_again c lane shard (replica ∷ bytes) range l s in
+    append_found c (lane ∷ be2 shard ++ replica ∷ bytes) (omega arith) (omega arith) (and_from _ _ named.1 (lt-ltb _ _ r))
+    ∙ ap (λ (n : ℕ). Some (Append lane (record { 0 = n }) (record { 0 = replica }) bytes)) named.0
+
+read_found : (c : Shape) (body : List ℕ) → length body ≡ 12 → names_replica c body ≡ true
+    → read_of c body ≡ Some (Read (get_or body 0 0) (record { 0 = number2 body 1 }) (record { 0 = get_or body 3 0 }) (record { 0 = number8 body 4 }))
+unfolding read_of
+read_found c body size named =
+    cond-true (eqb (length body) 12 && names_replica c body) _ _ (and_from _ _ (eq-eqb (length body) 12 size) named)
+
+read_again : (c : Shape) (lane shard replica position : ℕ) → InRange c → lane < 64 → shard < c.shards → replica < c.replicas
+    → position < 2 ^ 64
+    → read_of c (lane ∷ be2 shard ++ replica ∷ be8 position)
+    ≡ Some (Read lane (record { 0 = shard }) (record { 0 = replica }) (record { 0 = position }))
+unfolding be2
+read_again c lane shard replica position range l s r p =
+    let named = names_shard_again c lane shard (replica ∷ be8 position) range l s in
+    let at_end = number8-be8 position 4 (lane ∷ be2 shard ++ replica ∷ []) [] refl p in
+    let place : number8 (lane ∷ be2 shard ++ replica ∷ be8 position) 4 ≡ position =
+    subst (λ (l : List ℕ). number8 (lane ∷ be2 shard ++ replica ∷ l) 4 ≡ position) (append-nil (be8 position)) at_end in
+    read_found c (lane ∷ be2 shard ++ replica ∷ be8 position) (omega (arith, length-be8 position)) (and_from _ _ named.1 (lt-ltb _ _ r))
+    ∙ ap (λ (n : ℕ). Some (Read lane (record { 0 = n }) (record { 0 = replica }) (record { 0 = number8 (lane ∷ be2 shard ++ replica ∷ be8 position) 4 }))) named.0
+    ∙ ap (λ (n : ℕ). Some (Read lane (record { 0 = shard }) (record { 0 = replica }) (record { 0 = n }))) place
+
+add_found : (c : Shape) (body : List ℕ) → length body ≡ 3 → names_shard c body ≡ true
+    → add_of c body ≡ Some (Add (get_or body 0 0) (record { 0 = number2 body 1 }))
+unfolding add_of
+add_found c body size named =
+    cond-true (eqb (length body) 3 && names_shard c body) _ _ (and_from _ _ (eq-eqb (length body) 3 size) named)
+
+add_again : (c : Shape) (lane shard : ℕ) → InRange c → lane < 64 → shard < c.shards
+    → add_of c (lane ∷ be2 shard) ≡ Some (Add lane (record { 0 = shard }))
+unfolding be2
+add_again c lane shard range l s =
+    let named = names_shard_again c lane shard [] range l s in
+    add_found c (lane ∷ be2 shard) refl named.1 ∙ ap (λ (n : ℕ). Some (Add lane (record { 0 = n }))) named.0
+
+pub item_again : (c : Shape) (item : Item) → InRange c → IsItem c item → item_of c (item_kind item) (item_body item) ≡ Some item
+unfolding item_of
+item_again c (Append lane shard replica bytes) range is = append_again c lane shard.0 replica.0 bytes range is.0 is.1 is.2 is.3
+item_again c (Read lane shard replica position) range is = read_again c lane shard.0 replica.0 position.0 range is.0 is.1 is.2 is.3
+item_again c (Add lane shard) range is = add_again c lane shard.0 range is.0 is.1

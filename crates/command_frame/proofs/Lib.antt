@@ -1,0 +1,5 @@
+pub mod FrameLaws
+pub mod ItemLaws
+pub mod Limits
+pub mod Puts
+pub mod ReplyLaws

@@ -1,0 +1,62 @@
+-- What an item is, how it is spelled, and how many items there may be.
+use Rattle.std.specs.Prelude.{◌≡◌, ℕ, ◌+◌, ◌<◌, ◌≤◌, ◌^◌, List, ◌∷◌, ◌++◌, length, nat_lt, if◌then◌else◌, Option, Some, None}
+use Rattle.log_base.specs.ClusterShape.{Shape}
+use Rattle.log_base.specs.Wide.{IsBytes, be2, be8}
+use Rattle.command_frame.specs.declared.items.Item.{Item}
+use Rattle.command_frame.specs.declared.items.Item.TheVariants.{Append, Read, Add}
+use Rattle.command_frame.specs.Frames.{frame}
+
+-- the kind of an item's frame, and its body
+abbrev pub item_kind : Item → ℕ
+item_kind (Append lane shard replica bytes) = 1
+item_kind (Read lane shard replica position) = 2
+item_kind (Add lane shard) = 5
+
+abbrev pub item_body : Item → List ℕ
+item_body (Append lane shard replica bytes) = lane ∷ be2 shard.0 ++ replica.0 ∷ bytes
+item_body (Read lane shard replica position) = lane ∷ be2 shard.0 ++ replica.0 ∷ be8 position.0
+item_body (Add lane shard) = lane ∷ be2 shard.0
+
+-- the one spelling of an item
+abbrev pub item_spelling : Item → List ℕ
+item_spelling item = frame (item_kind item) (item_body item)
+
+-- the numbers of an item of a config are in range: 64 lanes, the shards and replicas that there are, and at
+-- most 65,535 bytes in a record
+abbrev pub IsItem : Shape → Item → Type 0
+IsItem shape (Append lane shard replica bytes) =
+    (lane < 64) × (shard.0 < shape.shards) × (replica.0 < shape.replicas) × (length bytes ≤ 65535) × IsBytes bytes
+IsItem shape (Read lane shard replica position) =
+    (lane < 64) × (shard.0 < shape.shards) × (replica.0 < shape.replicas) × (position.0 < 2 ^ 64)
+IsItem shape (Add lane shard) = (lane < 64) × (shard.0 < shape.shards)
+
+-- a kind and a body spell an item of a config
+pub record Spells (shape : Shape) (kind : ℕ) (body : List ℕ) (item : Item) : Type 0 where
+  pub of_kind : kind ≡ item_kind item
+  pub with_body : body ≡ item_body item
+  pub is_item : IsItem shape item
+
+-- how many items there are, and how many bytes their records have
+pub record Counts : Type 0 where
+  pub items : ℕ
+  pub record_bytes : ℕ
+
+abbrev pub none_yet : Counts
+none_yet = record { items = 0; record_bytes = 0 }
+
+-- how many bytes an item's record has
+abbrev pub record_bytes_of : Item → ℕ
+record_bytes_of (Append lane shard replica bytes) = length bytes
+record_bytes_of (Read lane shard replica position) = 0
+record_bytes_of (Add lane shard) = 0
+
+-- the counts with one more item
+abbrev pub counted : Counts → Item → Counts
+counted counts item = record { items = counts.items + 1; record_bytes = counts.record_bytes + record_bytes_of item }
+
+-- which limit is passed: 1, that of 65,536 items, or 2, that of 16,777,216 bytes of records
+abbrev pub passed_limit : Counts → Option ℕ
+passed_limit counts =
+    if nat_lt 65536 counts.items then Some 1
+    else if nat_lt 16777216 counts.record_bytes then Some 2
+    else None

@@ -1,0 +1,6 @@
+pub mod Frames
+pub mod Items
+pub mod Laws
+pub mod Reader
+pub mod Reading
+pub mod Replies

@@ -1,0 +1,72 @@
+//! Reading a frame from a source.
+
+ghost use Rattle.std.specs.Prelude.{◌≡◌, ℕ, ◌<◌, ◌≤◌, length, slice_index, IfOk};
+ghost use Rattle.std.specs.Io.KnownBytes.{Consumes, IsAtEnd};
+ghost use Rattle.log_base.specs.Outside.{Rose, unread};
+ghost use Rattle.log_base.specs.Shape.{shape};
+ghost use Rattle.command_frame.specs.Reader.{Finds};
+
+use crate::answers::{ItemFault, Next};
+use crate::reading::read_item;
+use log_base::{Config, PieceReader, Source, Stop, number_u32};
+use std::alloc::Global;
+
+/// How long a frame of an item may be behind its length.
+const LONGEST: u32 = 65_541;
+
+/// The item of the next frame, which begins at a place.
+pub fn read_framed<S: Source>(
+    alloc: Global,
+    config: &Config,
+    place: u64,
+    pieces: &mut PieceReader,
+    source: &mut S,
+) -> Result<Next, ItemFault>
+    ensures finds { Finds (shape config.now) (unread pieces.old.pending (S.left source.old)) (unread pieces.new.pending (S.left source.new)) result }
+    ensures bad { (at : ℕ) → result ≡ Err (ItemFault.Bad at) → at ≡ place }
+    ensures read { (at : ℕ) → result ≡ Err (ItemFault.Read at) → Rose (S.faults source.old) (S.faults source.new) × (at ≡ pieces.new.taken) }
+    ensures later { S.faults source.old ≤ S.faults source.new }
+{
+    let head = take(alloc, pieces, source, 4)?;
+    if head.is_empty() {
+        return Ok(Next::End);
+    }
+    if head.len() < 4 {
+        return Err(ItemFault::Bad { at: place });
+    }
+    let length = number_u32(&head, 0);
+    if length == 0 || length > LONGEST {
+        return Err(ItemFault::Bad { at: place });
+    }
+    let frame = take(alloc, pieces, source, length as usize)?;
+    if frame.len() < length as usize {
+        return Err(ItemFault::Bad { at: place });
+    }
+    match read_item(alloc, config, &frame)? {
+        Some(item) => Ok(Next::Item(item)),
+        None => Err(ItemFault::Bad { at: place }),
+    }
+}
+
+/// The next bytes, as many as are wanted, or all that are left where those are fewer.
+fn take<S: Source>(
+    alloc: Global,
+    pieces: &mut PieceReader,
+    source: &mut S,
+    wanted: usize,
+) -> Result<Vec<u8>, ItemFault>
+    ensures bytes { IfOk result (λ bytes. Consumes (unread pieces.old.pending (S.left source.old)) (unread pieces.new.pending (S.left source.new)) bytes.items) }
+    ensures count { IfOk result (λ bytes. length bytes.items ≤ wanted) }
+    ensures short { IfOk result (λ bytes. length bytes.items < wanted → IsAtEnd (unread pieces.new.pending (S.left source.new))) }
+    ensures fits { IfOk result (λ bytes. (k : ℕ) → slice_index bytes.items k < 256) }
+    ensures read { (at : ℕ) → result ≡ Err (ItemFault.Read at) → Rose (S.faults source.old) (S.faults source.new) × (at ≡ pieces.new.taken) }
+    ensures bad { (at : ℕ) → result ≡ Err (ItemFault.Bad at) → ⊥ }
+    ensures many { (cause : ℕ) → result ≡ Err (ItemFault.Many cause) → ⊥ }
+    ensures later { S.faults source.old ≤ S.faults source.new }
+{
+    match pieces.take(alloc, source, wanted) {
+        Ok(bytes) => Ok(bytes),
+        Err(Stop::Read) => Err(ItemFault::Read { at: pieces.taken() }),
+        Err(Stop::Memory) => Err(ItemFault::Memory),
+    }
+}

@@ -1,0 +1,54 @@
+//! The items, each a command of one lane.
+
+ghost use Rattle.std.specs.Prelude.{◌≡◌, ◌≤◌, length};
+ghost use Rattle.command_frame.specs.Items.{item_spelling, record_bytes_of};
+
+use log_base::{Bytes, Position, Replica, Shard};
+
+/// A command. Its lane, 0 to 63, is the client of the same number.
+#[derive(Debug, Drop)]
+pub enum Item {
+    /// Appends a record of at most 65,535 bytes to the segment of a replica of a shard.
+    Append {
+        lane: u8,
+        shard: Shard,
+        replica: Replica,
+        bytes: Bytes,
+    },
+    /// Asks a replica of a shard for the entry at a position.
+    Read {
+        lane: u8,
+        shard: Shard,
+        replica: Replica,
+        position: Position,
+    },
+    /// Adds a shard to the log.
+    Add {
+        lane: u8,
+        shard: Shard,
+    },
+}
+
+/// How many bytes the record of an item has.
+pub fn record_length(item: &Item) -> u32
+    requires { record_bytes_of item.now ≤ 65535 }
+    ensures { result ≡ record_bytes_of item.now }
+{
+    match item {
+        Item::Append { bytes, .. } => bytes.get().len() as u32,
+        Item::Read { .. } | Item::Add { .. } => 0,
+    }
+}
+
+/// How many bytes spell an item.
+#[tactic(auto, unfolding(log_base::specs::Wide::be2, log_base::specs::Wide::be4, log_base::specs::Wide::be8))]
+pub fn spelled_length(item: &Item) -> u32
+    requires { record_bytes_of item.now ≤ 65535 }
+    ensures { result ≡ length (item_spelling item.now) }
+{
+    match item {
+        Item::Append { bytes, .. } => bytes.get().len() as u32 + 9,
+        Item::Read { .. } => 17,
+        Item::Add { .. } => 8,
+    }
+}

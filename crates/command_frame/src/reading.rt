@@ -1,0 +1,92 @@
+//! Reading an item from the body of its frame.
+
+ghost use Rattle.std.specs.Prelude.{◌≡◌, ◌<◌, ◌≤◌, length, drop, slice_index, nat_lt, IfOk};
+ghost use Rattle.log_base.specs.Shape.{shape};
+ghost use Rattle.command_frame.specs.Reading.{names_shard, names_replica, append_of, read_of, add_of, item_of};
+
+use crate::items::Item;
+use log_base::{Bytes, Config, Position, Replica, Shard, number_u16, number_u64};
+use std::alloc::{AllocError, Global};
+
+/// The item that a kind and a body, as they stand in a frame, are of the config, if they are one.
+pub fn read_item(alloc: Global, config: &Config, content: &[u8]) -> Result<Option<Item>, AllocError>
+    requires { 0 < length content.now }
+    ensures { IfOk result (λ item. item ≡ item_of (shape config.now) (slice_index content.now 0) (drop 1 content.now)) }
+{
+    let (kind, body) = content.split_at(1);
+    read_kind(alloc, config, kind[0], body)
+}
+
+#[tactic(auto, unfolding(crate::specs::Reading::item_of))]
+fn read_kind(
+    alloc: Global,
+    config: &Config,
+    kind: u8,
+    body: &[u8],
+) -> Result<Option<Item>, AllocError>
+    ensures { IfOk result (λ item. item ≡ item_of (shape config.now) kind body.now) }
+{
+    match kind {
+        1 => read_append(alloc, config, body),
+        2 => Ok(read_read(config, body)),
+        5 => Ok(read_add(config, body)),
+        _ => Ok(None),
+    }
+}
+
+fn is_of_shard(config: &Config, body: &[u8]) -> bool
+    requires { 3 ≤ length body.now }
+    ensures { result ≡ names_shard (shape config.now) body.now }
+{
+    body[0] < 64 && number_u16(body, 1) < u16::from(config.shards())
+}
+
+fn is_of_replica(config: &Config, body: &[u8]) -> bool
+    requires { 4 ≤ length body.now }
+    ensures { result ≡ names_replica (shape config.now) body.now }
+{
+    is_of_shard(config, body) && body[3] < config.replicas()
+}
+
+#[tactic(auto, unfolding(crate::specs::Reading::append_of))]
+fn read_append(alloc: Global, config: &Config, body: &[u8]) -> Result<Option<Item>, AllocError>
+    ensures { IfOk result (λ item. item ≡ append_of (shape config.now) body.now) }
+{
+    if body.len() < 4 || body.len() > 65_539 || !is_of_replica(config, body) {
+        return Ok(None);
+    }
+    Ok(Some(Item::Append {
+        lane: body[0],
+        shard: Shard(number_u16(body, 1)),
+        replica: Replica(body[3]),
+        bytes: Bytes::of(Vec::from_slice(alloc, &body[4..])?),
+    }))
+}
+
+#[tactic(auto, unfolding(crate::specs::Reading::read_of))]
+fn read_read(config: &Config, body: &[u8]) -> Option<Item>
+    ensures { result ≡ read_of (shape config.now) body.now }
+{
+    if body.len() != 12 || !is_of_replica(config, body) {
+        return None;
+    }
+    Some(Item::Read {
+        lane: body[0],
+        shard: Shard(number_u16(body, 1)),
+        replica: Replica(body[3]),
+        position: Position(number_u64(body, 4)),
+    })
+}
+
+#[tactic(auto, unfolding(crate::specs::Reading::add_of))]
+fn read_add(config: &Config, body: &[u8]) -> Option<Item>
+    ensures { result ≡ add_of (shape config.now) body.now }
+{
+    if body.len() != 3 || !is_of_shard(config, body) {
+        return None;
+    }
+    Some(Item::Add {
+        lane: body[0],
+        shard: Shard(number_u16(body, 1)),
+    })
+}
