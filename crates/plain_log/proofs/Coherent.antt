@@ -1,0 +1,174 @@
+-- What holds of each state that items lead to: the covered length of each segment is the number of its entries.
+use Rattle.std.proofs.Common.{◌≡◌, ◌≢◌, ℕ, ◌+◌, ◌*◌, ◌<◌, true, false, List, [], ◌∷◌, ◌++◌, length, replicate, Option, refl, sym, ap, ◌∙◌, subst, ⊎_elim, arith}
+use Rattle.std.specs.Prelude.{slice_index, slice_index_or, slice_set}
+use Rattle.std.specs.List.{All, AllByRecursion}
+use Rattle.std.specs.Option.{option_map}
+use Rattle.std.proofs.lemmas.Bool.{cond_both, cases_Bool, false≢true}
+use Rattle.std.proofs.lemmas.List.{length-replicate, length-set, get_or-set_other}
+use Rattle.std.proofs.lemmas.List.Elements.{All-nil, All-push, All-map, All-weaker}
+use Rattle.std.proofs.lemmas.Nat.{same_from_place}
+use Rattle.log_base.specs.ClusterShape.{Shape}
+use Rattle.log_base.specs.declared.numbers.Shard.{Shard}
+use Rattle.record_frame.specs.declared.entries.Entry.{Entry}
+use Rattle.record_frame.specs.declared.values.Value.TheVariants.{Cut, Add as AddValue}
+use Rattle.log_model.specs.Chain.{ChainState, ShardState, Standing, Live, Frozen, no_values, is_added, raised, apply, chain_of, covered_of, covered_length, cut_shard}
+use Rattle.log_model.specs.Lookup.{segment_index}
+use Rattle.log_model.proofs.Appending.{chain_of-append}
+use Rattle.log_model.proofs.Coverage.{cut_state, cut_state-shard}
+use Rattle.log_model.proofs.Growth.{length-raised}
+use Rattle.log_model.proofs.Spelled.{covered_of-add}
+use Rattle.log_model.proofs.States.{state_in-map, state_of_added, state_of_not_added}
+use Rattle.command_frame.specs.declared.items.Item.{Item}
+use Rattle.command_frame.specs.declared.items.Item.TheVariants.{Append, Read, Add}
+use Rattle.command_frame.specs.Items.{IsItem}
+use Rattle.plain_log.specs.Log.{LogState, start, after, state_after, knows, drawn, stored, next_entry, cut_of}
+use Rattle.plain_log.proofs.Lists.{cut_of-at, replicate-nil, grown-at, raised-at, found_state}
+
+-- a shard's state where no shard is finalised: it is live, its number is in range, and it has a length for each replica
+abbrev pub IsUsual : Shape → ShardState → Type 0
+IsUsual shape state = (state.standing ≡ Live) × (state.shard < shape.shards) × (length state.covered ≡ shape.replicas)
+
+-- each segment has a list, whose length is the segment's covered length, and nothing is given up
+pub record IsCoherent (shape : Shape) (chain : ChainState) (segments : List (List Entry)) : Type 0 where
+  pub shards : All (IsUsual shape) chain.shards
+  pub segments_of_all : length segments ≡ shape.shards * shape.replicas
+  pub covered : (shard segment : ℕ) → shard < shape.shards → segment < shape.replicas
+      → covered_of chain shard segment ≡ length (slice_index_or segments (segment_index shape.replicas shard segment) [])
+  pub mark : chain.mark ≡ 0
+
+pub coherent_start : (shape : Shape) → IsCoherent shape no_values (start shape).segments
+coherent_start shape = record {
+  shards = All-nil (IsUsual shape);
+  segments_of_all = length-replicate (shape.shards * shape.replicas) [];
+  covered = λ shard segment there within.
+      ap (λ (entries : List Entry). length entries) (sym (replicate-nil (shape.shards * shape.replicas) (segment_index shape.replicas shard segment)));
+  mark = refl;
+}
+
+-- an addition
+pub coherent_added : (shape : Shape) (chain : ChainState) (segments : List (List Entry)) (shard : Shard) → shard.0 < shape.shards
+    → IsCoherent shape chain segments → IsCoherent shape (apply shape.replicas chain (AddValue shard)) segments
+coherent_added shape chain segments shard there is =
+    let new : ShardState = record { shard = shard.0; standing = Live; covered = replicate shape.replicas 0 } in
+    let more : ChainState = record chain { shards = chain.shards ++ new ∷ [] } in
+    record {
+      shards = cond_both (is_added chain shard.0) chain more (λ (c : ChainState). All (IsUsual shape) c.shards) (λ _. is.shards)
+          (λ _. All-push (IsUsual shape) chain.shards new is.shards (refl, there, length-replicate shape.replicas 0));
+      segments_of_all = is.segments_of_all;
+      covered = λ s j in_range within. covered_of-add shape.replicas chain shard.0 s j ∙ is.covered s j in_range within;
+      mark = cond_both (is_added chain shard.0) chain more (λ (c : ChainState). c.mark ≡ 0) (λ _. is.mark) (λ _. is.mark);
+    }
+
+usual-cut : (shape : Shape) (lengths : List ℕ) (standing : Standing) (state : ShardState)
+    → IsUsual shape state → IsUsual shape (cut_shard shape.replicas lengths standing state)
+usual-cut shape lengths Live state usual = (usual.0, usual.1, length-raised lengths _ state.covered ∙ usual.2)
+usual-cut shape lengths Frozen state usual = usual
+
+-- the lists where one gets an entry
+abbrev pub grown : ℕ → List (List Entry) → ℕ → ℕ → Entry → List (List Entry)
+grown replicas segments shard segment entry =
+    slice_set segments (segment_index replicas shard segment) (slice_index_or segments (segment_index replicas shard segment) [] ++ entry ∷ [])
+
+-- the chain after the cut of these lists
+abbrev pub cut_chain : ℕ → ChainState → List (List Entry) → ChainState
+cut_chain replicas chain segments = apply replicas chain (Cut (cut_of segments))
+
+-- In a shard that was added the cut raises each length to that of its list.
+covered_there : (shape : Shape) (chain : ChainState) (segments : List (List Entry)) (shard segment : ℕ) (entry : Entry)
+    → IsCoherent shape chain segments → (s j : ℕ) → is_added chain s ≡ true → s < shape.shards → j < shape.replicas
+    → covered_of (cut_chain shape.replicas chain (grown shape.replicas segments shard segment entry)) s j
+    ≡ length (slice_index_or (grown shape.replicas segments shard segment entry) (segment_index shape.replicas s j) [])
+covered_there shape chain segments shard segment entry is s j added in_range within =
+    let replicas = shape.replicas in
+    let lists = grown replicas segments shard segment entry in
+    let lengths = (cut_of lists).length in
+    let there = state_of_added chain.shards s added in
+    let state : ShardState = there.0 in
+    let facts = found_state (IsUsual shape) chain.shards s state is.shards there.1 in
+    let live : state.standing ≡ Live = facts.0.0 in
+    let size : length state.covered ≡ replicas = facts.0.2 in
+    let after : covered_of (cut_chain replicas chain lists) s j ≡ slice_index (raised lengths (state.shard * replicas) state.covered) j =
+    ap (λ (found : Option ShardState). covered_length found j) (state_in-map (cut_state replicas lengths) (cut_state-shard replicas lengths) chain.shards s)
+    ∙ ap (λ (found : Option ShardState). covered_length (option_map (cut_state replicas lengths) found) j) there.1
+    ∙ ap (λ (standing : Standing). slice_index (cut_shard replicas lengths standing state).covered j) live in
+    let raise = raised-at lengths (state.shard * replicas) state.covered j (omega (arith, size)) in
+    let before : slice_index state.covered j ≡ length (slice_index_or segments (segment_index replicas s j) []) =
+    ap (λ (found : Option ShardState). covered_length found j) (sym there.1) ∙ is.covered s j in_range within in
+    let told : slice_index lengths (state.shard * replicas + j) ≡ length (slice_index_or lists (segment_index replicas s j) []) =
+    cut_of-at lists (state.shard * replicas + j) ∙ ap (λ (n : ℕ). length (slice_index_or lists (segment_index replicas n j) [])) facts.1 in
+    let longer = grown-at segments (segment_index replicas shard segment) (segment_index replicas s j) entry in
+    omega (arith, after, raise, before, told, longer)
+
+-- In a shard that was not added nothing changes.
+covered_elsewhere : (shape : Shape) (chain : ChainState) (segments : List (List Entry)) (shard segment : ℕ) (entry : Entry)
+    → IsCoherent shape chain segments → is_added chain shard ≡ true → segment < shape.replicas
+    → (s j : ℕ) → is_added chain s ≡ false → s < shape.shards → j < shape.replicas
+    → covered_of (cut_chain shape.replicas chain (grown shape.replicas segments shard segment entry)) s j
+    ≡ length (slice_index_or (grown shape.replicas segments shard segment entry) (segment_index shape.replicas s j) [])
+covered_elsewhere shape chain segments shard segment entry is added place s j absent in_range within =
+    let replicas = shape.replicas in
+    let lists = grown replicas segments shard segment entry in
+    let lengths = (cut_of lists).length in
+    let none = state_of_not_added chain.shards s absent in
+    let after : covered_of (cut_chain replicas chain lists) s j ≡ 0 =
+    ap (λ (found : Option ShardState). covered_length found j) (state_in-map (cut_state replicas lengths) (cut_state-shard replicas lengths) chain.shards s)
+    ∙ ap (λ (found : Option ShardState). covered_length (option_map (cut_state replicas lengths) found) j) none in
+    let before : covered_of chain s j ≡ 0 = ap (λ (found : Option ShardState). covered_length found j) none in
+    let other : s ≢ shard = λ same.
+    let known : is_added chain s ≡ true = ap (is_added chain) same ∙ added in
+    false≢true (sym absent ∙ known) in
+    let apart : segment_index replicas s j ≢ segment_index replicas shard segment = λ same.
+    other (same_from_place s j shard segment replicas within place same).0 in
+    let kept = ap (λ (entries : List Entry). length entries)
+    (get_or-set_other segments (segment_index replicas shard segment) (segment_index replicas s j) (slice_index_or segments (segment_index replicas shard segment) [] ++ entry ∷ []) [] apart) in
+    omega (arith, after, before, kept, is.covered s j in_range within)
+
+-- an entry and its cut
+pub coherent_grown : (shape : Shape) (chain : ChainState) (segments : List (List Entry)) (shard segment : ℕ) (entry : Entry)
+    → is_added chain shard ≡ true → segment < shape.replicas → IsCoherent shape chain segments
+    → IsCoherent shape (cut_chain shape.replicas chain (grown shape.replicas segments shard segment entry)) (grown shape.replicas segments shard segment entry)
+coherent_grown shape chain segments shard segment entry added place is =
+    let lists = grown shape.replicas segments shard segment entry in
+    let lengths = (cut_of lists).length in
+    record {
+      shards = All-map (IsUsual shape) (cut_state shape.replicas lengths) chain.shards
+          (All-weaker (IsUsual shape) (λ (state : ShardState). IsUsual shape (cut_state shape.replicas lengths state))
+          (λ state usual. usual-cut shape lengths state.standing state usual) chain.shards is.shards);
+      segments_of_all = length-set segments _ _ ∙ is.segments_of_all;
+      covered = λ s j in_range within.
+          ⊎_elim
+          (λ there. covered_there shape chain segments shard segment entry is s j there in_range within)
+          (λ absent. covered_elsewhere shape chain segments shard segment entry is added place s j absent in_range within)
+          (cases_Bool (is_added chain s));
+      mark = is.mark;
+    }
+
+-- what holds of a state
+abbrev pub IsCoherentState : Shape → LogState → Type 0
+IsCoherentState shape state = IsCoherent shape (chain_of shape.replicas state.values) state.segments
+
+pub coherent_stored : (shape : Shape) (state : LogState) (shard segment : ℕ) (entry : Entry) → knows shape.replicas state shard ≡ true
+    → segment < shape.replicas → IsCoherentState shape state → IsCoherentState shape (stored shape.replicas state shard segment entry)
+coherent_stored shape state shard segment entry known place is =
+    let replicas = shape.replicas in
+    let lists = grown replicas state.segments shard segment entry in
+    subst (λ (chain : ChainState). IsCoherent shape chain lists) (sym (chain_of-append replicas state.values (Cut (cut_of lists) ∷ [])))
+    (coherent_grown shape (chain_of replicas state.values) state.segments shard segment entry known place is)
+
+-- Each item of the config keeps it.
+pub coherent_after : (shape : Shape) (run : ℕ) (state : LogState) (item : Item) → IsItem shape item
+    → IsCoherentState shape state → IsCoherentState shape (after shape run state item)
+coherent_after shape run state (Append lane shard replica bytes) item is =
+    let entry = next_entry run state lane bytes in
+    cond_both (knows shape.replicas state shard.0) (stored shape.replicas (drawn state lane) shard.0 replica.0 entry) (drawn state lane)
+    (IsCoherentState shape) (λ known. coherent_stored shape (drawn state lane) shard.0 replica.0 entry known item.2 is) (λ _. is)
+coherent_after shape run state (Read lane shard replica position) item is = is
+coherent_after shape run state (Add lane shard) item is =
+    subst (λ (chain : ChainState). IsCoherent shape chain state.segments) (sym (chain_of-append shape.replicas state.values (AddValue shard ∷ [])))
+    (coherent_added shape (chain_of shape.replicas state.values) state.segments shard item.1 is)
+
+pub coherent_state_after : (shape : Shape) (run : ℕ) (state : LogState) (items : List Item) → AllByRecursion (IsItem shape) items
+    → IsCoherentState shape state → IsCoherentState shape (state_after shape run state items)
+coherent_state_after shape run state [] all is = is
+coherent_state_after shape run state (item ∷ items) all is =
+    coherent_state_after shape run (after shape run state item) items all.1 (coherent_after shape run state item all.0 is)

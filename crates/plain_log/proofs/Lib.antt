@@ -1,0 +1,7 @@
+pub mod Answering
+pub mod Coherent
+pub mod Lists
+pub mod OneSegment
+pub mod Room
+pub mod Sequence
+pub mod Sizes

@@ -1,0 +1,3 @@
+pub mod Log
+pub mod OneSegment
+pub mod Room

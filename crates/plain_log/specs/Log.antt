@@ -1,0 +1,110 @@
+-- The log of one thread: items answered one after another by looking in one sequence. Its state is the list
+-- of values, the list of entries of each segment, and how many numbers each lane has drawn.
+use Rattle.std.specs.Prelude.{ℕ, ◌+◌, ◌-◌, ◌*◌, ◌^◌, List, [], ◌∷◌, ◌++◌, map, length, slice_index, slice_index_or, slice_set, nat_lt, Bool, if◌then◌else◌, Option, Some, None, replicate}
+use Rattle.log_base.specs.ClusterShape.{Shape}
+use Rattle.log_base.specs.declared.numbers.Position.{Position}
+use Rattle.record_frame.specs.declared.entries.Entry.{Entry}
+use Rattle.record_frame.specs.declared.values.Lengths.{Lengths}
+use Rattle.record_frame.specs.declared.values.Value.{Value}
+use Rattle.record_frame.specs.declared.values.Value.TheVariants.{Cut, Add as AddValue}
+use Rattle.log_model.specs.Chain.{chain_of, is_added}
+use Rattle.log_model.specs.Places.{place_at}
+use Rattle.log_model.specs.Lookup.{segment_index, entry_at_position, position_of_place}
+use Rattle.command_frame.specs.declared.items.Item.{Item}
+use Rattle.command_frame.specs.declared.items.Item.TheVariants.{Append, Read, Add}
+use Rattle.command_frame.specs.declared.replies.Reply.{Reply, Nothing, At, Found, PendingRead, NotAdded, Trimmed, Settled}
+
+pub record LogState : Type 0 where
+  pub values : List Value
+  pub segments : List (List Entry)
+  pub draws : List ℕ
+
+-- nothing is decided, no segment has an entry, and none of the 64 lanes has drawn a number
+abbrev pub start : Shape → LogState
+start shape = record { values = []; segments = replicate (shape.shards * shape.replicas) []; draws = replicate 64 0 }
+
+-- the k-th number that a lane draws in a run, from 0
+abbrev pub number_of_draw : ℕ → ℕ → ℕ
+number_of_draw run k = run * 2 ^ 32 + k
+
+-- the entry that a lane appends next
+abbrev pub next_entry : ℕ → LogState → ℕ → List ℕ → Entry
+next_entry run state lane bytes = record {
+  client = record { 0 = lane };
+  number = record { 0 = number_of_draw run (slice_index state.draws lane) };
+  bytes = bytes;
+}
+
+-- the lane has drawn one more number
+abbrev pub drawn : LogState → ℕ → LogState
+drawn state lane = record state { draws = slice_set state.draws lane (slice_index state.draws lane + 1) }
+
+-- the cut of the lengths of all lists
+abbrev pub cut_of : List (List Entry) → Lengths
+cut_of segments = record { count = length segments; length = map (λ (entries : List Entry). length entries) segments ++ replicate (32 - length segments) 0 }
+
+-- the list of a segment
+abbrev pub entries_of : ℕ → LogState → ℕ → ℕ → List Entry
+entries_of replicas state shard segment = slice_index_or state.segments (segment_index replicas shard segment) []
+
+-- an entry joins the list of its segment, and the cut of all lists joins the values
+abbrev pub stored : ℕ → LogState → ℕ → ℕ → Entry → LogState
+stored replicas state shard segment entry =
+    let segments = slice_set state.segments (segment_index replicas shard segment) (entries_of replicas state shard segment ++ entry ∷ []) in
+    record state { values = state.values ++ Cut (cut_of segments) ∷ []; segments = segments }
+
+-- whether a shard was added
+abbrev pub knows : ℕ → LogState → ℕ → Bool
+knows replicas state shard = is_added (chain_of replicas state.values) shard
+
+-- The state after an item. An append draws a number, also where its shard was not added.
+abbrev pub after : Shape → ℕ → LogState → Item → LogState
+after shape run state (Append lane shard replica bytes) =
+    if knows shape.replicas state shard.0
+    then stored shape.replicas (drawn state lane) shard.0 replica.0 (next_entry run state lane bytes)
+    else drawn state lane
+after shape run state (Read lane shard replica position) = state
+after shape run state (Add lane shard) = record state { values = state.values ++ AddValue shard ∷ [] }
+
+-- where a place stands, as a reply
+abbrev pub told_position : Option ℕ → Reply
+told_position None = Nothing
+told_position (Some position) = At (record { 0 = position })
+
+-- the entry at a position, as a reply
+abbrev pub told_entry : Position → Option Entry → Reply
+told_entry position None = Nothing
+told_entry position (Some entry) = Found position entry
+
+-- what is found at a position: below the mark it is given up, and at or past the end it is pending
+abbrev pub read_in : ℕ → LogState → Position → Reply
+read_in replicas state position =
+    let chain = chain_of replicas state.values in
+    if nat_lt position.0 chain.mark then Trimmed (record { 0 = chain.mark })
+    else if nat_lt position.0 chain.end then told_entry position (entry_at_position replicas state.values state.segments position.0)
+    else PendingRead (record { 0 = chain.end })
+
+-- The reply to an item. An append to a shard that was added is told its position at once; it is that of its
+-- place in what the values with its cut spell. An addition is told the index of its value.
+abbrev pub reply_to : Shape → ℕ → LogState → Item → Reply
+reply_to shape run state (Append lane shard replica bytes) =
+    if knows shape.replicas state shard.0
+    then told_position (position_of_place shape.replicas (after shape run state (Append lane shard replica bytes)).values
+    (place_at shard.0 replica.0 (length (entries_of shape.replicas state shard.0 replica.0))))
+    else NotAdded
+reply_to shape run state (Read lane shard replica position) = read_in shape.replicas state position
+reply_to shape run state (Add lane shard) = Settled (record { 0 = length state.values })
+
+-- the replies to items, one after another, from a state on
+abbrev pub replies_from : Shape → ℕ → LogState → List Item → List Reply
+replies_from shape run state [] = []
+replies_from shape run state (item ∷ items) = reply_to shape run state item ∷ replies_from shape run (after shape run state item) items
+
+-- the replies of the log of one thread
+abbrev pub log_of : Shape → ℕ → List Item → List Reply
+log_of shape run items = replies_from shape run (start shape) items
+
+-- the state after items
+abbrev pub state_after : Shape → ℕ → LogState → List Item → LogState
+state_after shape run state [] = state
+state_after shape run state (item ∷ items) = state_after shape run (after shape run state item) items
