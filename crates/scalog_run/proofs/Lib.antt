@@ -1,0 +1,3 @@
+pub mod Completion
+pub mod Reading
+pub mod SoFar

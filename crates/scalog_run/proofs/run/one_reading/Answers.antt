@@ -1,0 +1,7 @@
+use Rattle.command_frame.proofs.FrameLaws.{one_item}
+use Rattle.scalog_run.proofs.Reading.{reads_one_way}
+use Rattle.scalog_run.proofs.run.one_reading.Goals as goal
+
+pub returns : goal.returns
+returns c shape bytes items others ending other range a b =
+    reads_one_way shape (λ item next rest more is are e. one_item shape item next rest more range is are e) bytes items others ending other a b

@@ -1,0 +1,4 @@
+pub mod Input
+pub mod Run
+pub mod Steps
+pub mod Words

@@ -1,0 +1,14 @@
+//! The top call: words to options, items in, replies out, and the status that the program ends with.
+#![tactic(auto)]
+
+mod gathering;
+mod options;
+mod run;
+pub mod status;
+mod words;
+
+pub use options::Options;
+pub use run::{one_reading, run_items, scalog};
+
+#[cfg(test)]
+mod tests;

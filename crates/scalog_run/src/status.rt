@@ -1,0 +1,22 @@
+//! The statuses that the program ends with.
+
+/// All items were answered and the replies were sent.
+pub const DONE: u8 = 0;
+
+/// The words are no command.
+pub const BAD_WORDS: u8 = 2;
+
+/// The input has a place where no frame or no item stands.
+pub const BAD_INPUT: u8 = 3;
+
+/// The source failed.
+pub const READ_FAULT: u8 = 4;
+
+/// The sink failed.
+pub const WRITE_FAULT: u8 = 5;
+
+/// The input has too many items, or too many bytes in their records.
+pub const TOO_MANY: u8 = 7;
+
+/// Memory ran out.
+pub const OUT_OF_MEMORY: u8 = 9;

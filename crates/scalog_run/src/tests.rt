@@ -1,0 +1,163 @@
+//! Runs of the top call over sources and sinks in memory.
+
+ghost use Rattle.std.specs.Prelude.{◌<◌};
+
+use crate::{scalog, status};
+use log_base::{MemorySink, MemorySource};
+use std::test::Fail;
+
+const WORDS: [&str; 5] = ["run", "--replicas", "1", "--shards", "1"];
+
+const ADD: &[u8] = b"\0\0\0\x04\x05\0\0\0";
+
+const ADD_APPEND_READ: &[u8] =
+    b"\0\0\0\x04\x05\0\0\0\0\0\0\x06\x01\0\0\0\0a\0\0\0\x0d\x02\0\0\0\0\0\0\0\0\0\0\0\0";
+
+const SETTLED: &[u8] = b"\0\0\0\x07\x40\0\x14\0\0\0\0";
+
+const PENDING: &[u8] = b"\0\0\0\x0b\x40\0\x05\0\0\0\0\0\0\0\0";
+
+const SETTLED_AT_FOUND: &[u8] =
+    b"\0\0\0\x07\x40\0\x14\0\0\0\0\0\0\0\x0b\x40\0\x02\0\0\0\0\0\0\0\0\0\0\0\x1a\x40\0\x03\0\0\0\0\0\0\0\0\0\0\0\0\0\x01\0\0\0\0\0\0\0\x01a";
+
+// The status of a run, and what its sink has taken.
+#[derive(Drop)]
+struct Outcome {
+    status: u8,
+    sent: Vec<u8>,
+}
+
+fn run_on(
+    rt: &HostRuntime,
+    words: &[&str],
+    input: &[u8],
+    failing_read: u32,
+    failing_write: u32,
+) -> Result<Outcome, Fail> {
+    let alloc = rt.alloc();
+    let mut texts = Vec::new(alloc);
+    for word in words {
+        texts.push(String::from_str(alloc, word)?)?;
+    }
+    let bytes = Vec::from_slice(alloc, input)?;
+    let mut source = MemorySource::new(bytes, 5, vec![in alloc; failing_read]?);
+    let fails = vec![in alloc; failing_write]?;
+    let mut sink = MemorySink::new(alloc, 1_048_576, 4, fails)
+        .ok()
+        .ok_or("memory")?;
+    let status = scalog(alloc, &texts, &mut source, &mut sink);
+    let sent = Vec::from_slice(alloc, sink.bytes())?;
+    Ok(Outcome { status, sent })
+}
+
+// A call that no run makes.
+const NEVER: u32 = u32::MAX;
+
+#[test]
+fn inputs_are_answered(rt: HostRuntime) -> Result<(), Fail> {
+    let table = [
+        (b"".as_slice(), b"".as_slice()),
+        (ADD, SETTLED),
+        (&ADD_APPEND_READ[18..], PENDING),
+        (ADD_APPEND_READ, SETTLED_AT_FOUND),
+    ];
+    for (input, want) in table {
+        let outcome = run_on(&rt, &WORDS, input, NEVER, NEVER)?;
+        assert_eq!(rt; outcome.status, status::DONE);
+        assert_eq!(rt; outcome.sent.as_slice(), want);
+    }
+    Ok(())
+}
+
+#[test]
+fn bad_inputs_are_refused(rt: HostRuntime) -> Result<(), Fail> {
+    let table = [
+        ("length 0", b"\0\0\0\0".as_slice()),
+        ("length 65,542", b"\0\x01\0\x06\x01\0\0\0\0"),
+        ("length 2^32 - 1", b"\xff\xff\xff\xff\x01\0\0\0\0"),
+        ("kind 3", b"\0\0\0\x0f\x03\0\0\0\0\0\0\0\0\0\0\0\0\0\x01"),
+        ("kind 4", b"\0\0\0\x0a\x04\0\0\0\0\0\0\0\0\0"),
+        ("kind 6", b"\0\0\0\x04\x06\0\0\0"),
+        ("kind 7", b"\0\0\0\x02\x07\0"),
+        ("kind 8", b"\0\0\0\x06\x08\0hold"),
+        ("lane 64", b"\0\0\0\x04\x05\x40\0\0"),
+        ("shard 1", b"\0\0\0\x04\x05\0\0\x01"),
+        ("replica 1", b"\0\0\0\x06\x01\0\0\0\x01a"),
+        ("one byte too many", b"\0\0\0\x05\x05\0\0\0\0"),
+    ];
+    for (name, input) in table {
+        let outcome = run_on(&rt, &WORDS, input, NEVER, NEVER)?;
+        assert_eq!(rt; outcome.status, status::BAD_INPUT, "{name}");
+        assert_eq!(rt; outcome.sent.len(), 0, "{name}");
+    }
+    for end in 0..ADD_APPEND_READ.len() {
+        let outcome = run_on(&rt, &WORDS, &ADD_APPEND_READ[..end], NEVER, NEVER)?;
+        let whole = end == 0 || end == 8 || end == 18;
+        let want = if whole {
+            status::DONE
+        } else {
+            status::BAD_INPUT
+        };
+        assert_eq!(rt; outcome.status, want, "cut at {end}");
+        assert_eq!(rt; outcome.sent.is_empty(), end == 0 || !whole, "cut at {end}");
+    }
+    Ok(())
+}
+
+#[test]
+fn words_and_faults_have_their_status(rt: HostRuntime) -> Result<(), Fail> {
+    let words = [
+        [].as_slice(),
+        &["run"],
+        &["run", "--shards", "1", "--replicas", "1"],
+        &["run", "--replicas", "1", "--shards", "1", "1"],
+        &["run", "--replicas", "1", "--shards", "2"],
+    ];
+    for words in words {
+        let outcome = run_on(&rt, words, ADD_APPEND_READ, NEVER, NEVER)?;
+        assert_eq!(rt; outcome.status, status::BAD_WORDS);
+        assert_eq!(rt; outcome.sent.len(), 0);
+    }
+    let read = run_on(&rt, &WORDS, ADD_APPEND_READ, 3, NEVER)?;
+    assert_eq!(rt; read.status, status::READ_FAULT);
+    assert_eq!(rt; read.sent.len(), 0);
+    let write = run_on(&rt, &WORDS, ADD_APPEND_READ, NEVER, 1)?;
+    assert_eq!(rt; write.status, status::WRITE_FAULT);
+    assert_eq!(rt; write.sent.as_slice(), b"\0\0\0\x07".as_slice());
+    Ok(())
+}
+
+// Frames of an Append of this many bytes behind an Add, and what comes of them.
+fn long_record(rt: &HostRuntime, size: usize) -> Result<Outcome, Fail>
+    requires { size < 70000 }
+{
+    let mut input = Vec::from_slice(rt.alloc(), ADD)?;
+    let length = size + 5;
+    for byte in [0, length / 65_536 % 256, length / 256 % 256, length % 256] {
+        input.push(byte as u8)?;
+    }
+    input.extend_from_slice(&[1, 0, 0, 0, 0])?;
+    for _ in 0..size {
+        input.push(7)?;
+    }
+    run_on(rt, &WORDS, &input, NEVER, NEVER)
+}
+
+#[test]
+fn limits_are_those_that_are_stated(rt: HostRuntime) -> Result<(), Fail> {
+    assert_eq!(rt; long_record(&rt, 65_535)?.status, status::DONE);
+    assert_eq!(rt; long_record(&rt, 65_536)?.status, status::BAD_INPUT);
+    let mut input = Vec::new(rt.alloc());
+    for _ in 0..65_536 {
+        input.extend_from_slice(ADD)?;
+    }
+    assert_eq!(rt;
+        run_on(&rt, &WORDS, &input, NEVER, NEVER)?.status,
+        status::DONE
+    );
+    input.extend_from_slice(ADD)?;
+    let many = run_on(&rt, &WORDS, &input, NEVER, NEVER)?;
+    assert_eq!(rt; many.status, status::TOO_MANY);
+    assert_eq!(rt; many.sent.len(), 0);
+    Ok(())
+}
