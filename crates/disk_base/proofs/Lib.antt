@@ -1,0 +1,5 @@
+pub mod Crashes
+pub mod Orders
+pub mod Records
+pub mod Runs
+pub mod Tearing
