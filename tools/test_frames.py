@@ -1,0 +1,155 @@
+#!/usr/bin/env python3
+"""Tests of frames.py: every item and reply both ways, bad lines, and frames that are cut short."""
+
+import os
+import subprocess
+import sys
+
+import frames
+
+HERE = os.path.dirname(os.path.abspath(__file__))
+
+# An item's text, and its frame.
+ITEMS = [
+    ("add 0", "00000004 05 00 0000"),
+    ("lane 3: add 7", "00000004 05 03 0007"),
+    ('append 0.0 "a"', "00000006 01 00 0000 00 61"),
+    ('lane 63: append 1.4 ""', "00000005 01 3f 0001 04"),
+    ('append 0.0 "\\n\\t\\\\\\"\\xff"', "0000000a 01 00 0000 00 0a095c22ff"),
+    ("read 0.0 @0", "0000000d 02 00 0000 00 0000000000000000"),
+    ("read 2.1 @18446744073709551615", "0000000d 02 00 0002 01 ffffffffffffffff"),
+]
+
+# A reply's frame, and its text.
+REPLIES = [
+    ("00000003 40 00 00", "lane 0  Nothing"),
+    ("00000007 40 01 01 00000005", "lane 1  Stored  offset 5"),
+    ("0000000b 40 00 02 0000000000000000", "lane 0  At  @0"),
+    (
+        "0000001a 40 00 03 0000000000000000 0000 0000000100000000 00000001 61",
+        'lane 0  Found  @0  client 0 number 1.0  "a"',
+    ),
+    ("00000007 40 00 04 00000001", "lane 0  PendingAsk  covered 1"),
+    ("0000000b 40 00 05 0000000000000000", "lane 0  PendingRead  end 0"),
+    ("00000007 40 00 06 00000002", "lane 0  PendingWish  known 2"),
+    ("00000003 40 00 07", "lane 0  Finalised"),
+    ("00000007 40 00 08 00000003", "lane 0  FinalisedAt  frozen 3"),
+    ("00000003 40 00 09", "lane 0  NotAdded"),
+    ("0000000b 40 00 0a 0000000100000002", "lane 0  Stale  last 1.2"),
+    ("00000003 40 00 0b", "lane 0  Full"),
+    ("00000003 40 00 0c", "lane 0  Halted"),
+    ("00000003 40 00 0d", "lane 0  Down"),
+    ("00000003 40 00 0e", "lane 0  Missing"),
+    ("0000000b 40 00 0f 0000000000000003", "lane 0  Trimmed  mark 3"),
+    ("00000005 40 00 10 0001", "lane 0  Elsewhere  shard 1"),
+    ("00000007 40 00 11 00000004", "lane 0  Taken  from 4"),
+    ("00000003 40 00 12", "lane 0  NoSuchShard"),
+    ("00000003 40 00 13", "lane 0  NotLeading"),
+    ("00000007 40 00 14 00000000", "lane 0  Settled  slot 0"),
+    (
+        "00000025 40 00 15 0000000000000002 0001 0000 0000000100000000 00000001 72 05 0000000000000003",
+        'lane 0  Stream  @2  [client 0 number 1.0  "r"]  last PendingRead  end 3',
+    ),
+    ("0000000e 40 00 15 0000000000000000 0000 00", "lane 0  Stream  @0  []  last Nothing"),
+    ("00000003 40 00 16", "lane 0  NoLeader"),
+    ("00000007 40 00 17 00000000", "lane 0  NoLetter  waiting 0"),
+    ("00000003 40 00 18", "lane 0  NothingKept"),
+    ("00000003 40 00 19", "lane 0  Done"),
+    ("00000007 40 00 1a 00000009", "lane 0  Spent  used 9"),
+]
+
+# A line that is no item, and a word of what was expected.
+BAD_LINES = [
+    ("take 0", "add SHARD"),
+    ("add", "a shard"),
+    ("add 65536", "a shard"),
+    ("add 01", "leading zeros"),
+    ("lane 64: add 0", "a lane"),
+    ("lane x: add 0", "a lane"),
+    ('append 0 "a"', "SHARD.REPLICA"),
+    ('append 0.256 "a"', "a replica"),
+    ("append 0.0 a", "a record"),
+    ('append 0.0 "a', "a record"),
+    ('append 0.0 "\\q"', "a record"),
+    ("append 0.0 hex:6", "a record"),
+    ("read 0.0 0", "@POSITION"),
+    ("read 0.0 @18446744073709551616", "a position"),
+]
+
+# Bytes that are no reply's frames, what is shown before them, and a word of the fault.
+BAD_FRAMES = [
+    ("0000", 0, "at offset 0"),
+    ("00000003 40 00 19 0000", 1, "at offset 7"),
+    ("00000007 40 00 14 0000", 0, "cuts short"),
+    ("00000000", 0, "1 to"),
+    ("00000003 40 00 1b", 0, "a kind up to 26"),
+    ("00000002 05 00", 0, "kind 0x5"),
+    ("00000004 40 00 19 00", 0, "left over"),
+    ("00000005 40 00 14 0000", 0, "end before"),
+    ("0000000e 40 00 15 0000000000000000 0000 15", 0, "a kind up to 20"),
+]
+
+
+def run(command, data):
+    return subprocess.run([sys.executable, os.path.join(HERE, "frames.py"), command], input=data, capture_output=True)
+
+
+def test_items_go_both_ways():
+    for text, want in ITEMS:
+        frame = frames.item_frame(text)
+        assert frame == bytes.fromhex(want), text
+        assert frames.item_text(frame) == text, text
+    assert frames.item_frame("append 0.0 hex:6162") == frames.item_frame('append 0.0 "ab"')
+    assert len(frames.item_frame("append 0.0 hex:" + "00" * 65_535)) == 65_544
+    done = run("items", "\n".join(text for text, _ in ITEMS).encode())
+    assert (done.returncode, done.stdout) == (0, bytes.fromhex("".join(want for _, want in ITEMS)))
+
+
+def test_replies_are_shown():
+    kinds = {bytes.fromhex(frame)[6] for frame, _ in REPLIES}
+    assert kinds == set(frames.REPLIES), "every kind of reply stands in the table"
+    done = run("show", bytes.fromhex("".join(frame for frame, _ in REPLIES)))
+    assert done.returncode == 0
+    assert done.stdout.decode().splitlines() == [text for _, text in REPLIES]
+
+
+def test_bad_lines_are_refused():
+    for line, word in BAD_LINES + [("append 0.0 hex:" + "00" * 65_536, "at most 65,535")]:
+        done = run("items", f"add 0\n\n{line}\n".encode())
+        assert done.returncode == 1 and done.stdout == b"", line
+        assert "line 3" in done.stderr.decode() and word in done.stderr.decode(), (line, done.stderr)
+
+
+def test_bad_frames_are_told():
+    for data, shown, word in BAD_FRAMES:
+        done = run("show", bytes.fromhex(data))
+        assert done.returncode == 1, data
+        assert len(done.stdout.splitlines()) == shown, data
+        assert word in done.stderr.decode(), (data, done.stderr)
+    whole = bytes.fromhex("".join(frame for frame, _ in REPLIES))
+    starts = {0}
+    for frame, _ in REPLIES:
+        starts.add(max(starts) + len(bytes.fromhex(frame)))
+    for end in range(len(whole)):
+        try:
+            count = len(list(frames.reply_texts(whole[:end])))
+        except frames.Refused:
+            count = None
+        assert (count is not None) == (end in starts), f"cut at {end}"
+
+
+def main():
+    tests = [(name, test) for name, test in globals().items() if name.startswith("test_")]
+    failed = 0
+    for name, test in tests:
+        try:
+            test()
+        except AssertionError as why:
+            failed += 1
+            print(f"{name}: {why}")
+    print(f"tools: {len(tests) - failed} passed, {failed} failed")
+    return 1 if failed else 0
+
+
+if __name__ == "__main__":
+    sys.exit(main())
