@@ -1,0 +1,6 @@
+pub mod Apart
+pub mod Cutting
+pub mod Growing
+pub mod Keeping
+pub mod Stretches
+pub mod Walks

@@ -1,0 +1,33 @@
+use Rattle.std.proofs.Common.{◌≡◌, ℕ, ◌+◌, ◌<◌, ◌≤◌, max, min, List, [], length, refl, sym, ap, ◌∙◌, subst, arith}
+use Rattle.log_base.specs.ClusterShape.{Shape}
+use Rattle.log_base.specs.Shape.{shape}
+use Rattle.log_base.specs.declared.numbers.Place.{Place}
+use Rattle.record_frame.specs.declared.values.Value.TheVariants.{Noop, Cut, Add, Finalise, Trim}
+use Rattle.shard_registry.specs.Order.{Order, added, finalised}
+use Rattle.cut_chain.specs.Covering.{lengths_of}
+use Rattle.cut_chain.specs.Known.{Known, Chained, learned}
+use Rattle.cut_chain.specs.Kept.{known_from, IsKept}
+use Rattle.cut_chain.proofs.Keeping.{kept_on, known_finalise, finalised-in_range, finalised-listed}
+use Rattle.cut_chain.proofs.applying.Chain.finalise.Goals as goal
+
+pub invariant_of-self : goal.invariant_of-self
+invariant_of-self g c =
+    let f = c.self.inside in
+    let is = c.self.invariant in
+    let places = g.P.Places.places f.places in
+    let counted = ap (λ (v : Chained). v.known.count) c.self.view_is in
+    let s = c.args.shard in
+    subst (λ (o : Order). IsKept (shape f.config) o f.covered places f.end f.mark (f.count + 1)) (sym c.finalise.ensures.order)
+    (kept_on (shape f.config) f.registry (finalised f.registry s.0) f.covered f.covered places places f.end f.mark f.count f.end f.mark (Finalise s) is
+    (finalised-in_range f.registry f.config.shards s.0 is.in_range)
+    (λ shard absent. is.unlisted shard (finalised-listed f.registry s.0 shard absent))
+    (omega (arith, counted, c.requires.count)) (omega arith)
+    (known_finalise (shape f.config) f.registry f.covered places f.end f.mark f.count s))
+
+pub returns : goal.returns
+returns g c =
+    let f = c.self.inside in
+    let places = g.P.Places.places f.places in
+    ap (λ (o : Order). known_from (shape f.config) o f.covered places f.end f.mark (f.count + 1)) c.finalise.ensures.order
+    ∙ known_finalise (shape f.config) f.registry f.covered places f.end f.mark f.count c.args.shard
+    ∙ ap (λ (v : Chained). learned v.known (Finalise c.args.shard)) c.self.view_is

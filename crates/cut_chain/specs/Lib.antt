@@ -1,0 +1,5 @@
+pub mod Covering
+pub mod Kept
+pub mod Known
+pub mod Runs
+pub mod Walk
