@@ -1,0 +1,47 @@
+//! Events and histories.
+
+use crate::inputs::{Input, Mark};
+use command_frame::Reply;
+use log_base::{Bytes, Config, List, NodeId};
+use message_frame::Message;
+
+/// A letter that a node sends.
+#[derive(Debug, Drop)]
+pub struct Sent {
+    pub to: NodeId,
+    pub message: Message,
+}
+
+/// What happened in an event: what was taken, how it turned out, what was sent, and the reply.
+#[derive(Debug, Drop)]
+pub struct Happened {
+    pub input: Input,
+    pub mark: Mark,
+    pub outputs: List<Sent>,
+    pub reply: Reply,
+}
+
+/// An event: one node takes one input. Its place is its number among all events, from 0.
+#[derive(Debug, Drop)]
+pub struct Event {
+    pub place: u32,
+    pub node: NodeId,
+    pub happened: Happened,
+}
+
+/// A payload that a disk held before the run.
+#[derive(Debug, Drop)]
+pub struct Kept {
+    pub disk: u32,
+    pub payload: Bytes,
+}
+
+/// A run: its config and number, what the disks held before it, and its events in order of place.
+#[derive(Debug, Drop)]
+pub struct History {
+    pub config: Config,
+    /// 1 to 1,000,000.
+    pub run: u32,
+    pub kept: List<Kept>,
+    pub events: List<Event>,
+}

@@ -1,0 +1,6 @@
+pub mod Acceptor
+pub mod Leader
+pub mod Learner
+pub mod Majority
+pub mod Values
+pub mod Votes
