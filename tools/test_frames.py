@@ -2,6 +2,7 @@
 """Tests of frames.py: every item and reply both ways, bad lines, and frames that are cut short."""
 
 import os
+import re
 import subprocess
 import sys
 
@@ -51,6 +52,10 @@ REPLIES = [
         'lane 0  Stream  @2  [client 0 number 1.0  "r"]  last PendingRead  end 3',
     ),
     ("0000000e 40 00 15 0000000000000000 0000 00", "lane 0  Stream  @0  []  last Nothing"),
+    (
+        "0000002b 40 02 15 0000000000000000 0002 0000 0000000100000000 00000001 61 0001 0000000100000001 00000000 00",
+        'lane 2  Stream  @0  [client 0 number 1.0  "a"; client 1 number 1.1  ""]  last Nothing',
+    ),
     ("00000003 40 00 16", "lane 0  NoLeader"),
     ("00000007 40 00 17 00000000", "lane 0  NoLetter  waiting 0"),
     ("00000003 40 00 18", "lane 0  NothingKept"),
@@ -90,6 +95,53 @@ BAD_FRAMES = [
 ]
 
 
+def numbers(text):
+    """A number that a lane drew, of its run and its draw."""
+    run_number, draw = text.split(".")
+    return (int(run_number) << 32 | int(draw)).to_bytes(8, "big")
+
+
+def entry_bytes(tokens):
+    words = [tokens.pop(0) for _ in range(5)]
+    record = frames.record_of(words[4])
+    return int(words[1]).to_bytes(2, "big") + numbers(words[3]) + len(record).to_bytes(4, "big") + record
+
+
+def field_bytes(name, form, tokens):
+    if form == frames.ENTRY:
+        return entry_bytes(tokens)
+    if form == frames.ENTRIES:
+        entries = []
+        while tokens.pop(0) != "]":
+            if tokens[0] != "]":
+                entries.append(entry_bytes(tokens))
+        return len(entries).to_bytes(2, "big") + b"".join(entries)
+    if form == frames.LAST:
+        tokens.pop(0)
+        return reply_bytes(tokens)
+    if name == "@":
+        return int(tokens.pop(0)[1:]).to_bytes(form, "big")
+    assert tokens.pop(0) == name
+    value = tokens.pop(0)
+    return numbers(value) if "." in value else int(value).to_bytes(form, "big")
+
+
+def reply_bytes(tokens):
+    name = tokens.pop(0)
+    kind, fields = next((kind, fields) for kind, (known, fields) in frames.REPLIES.items() if known == name)
+    return bytes([kind]) + b"".join(field_bytes(field, form, tokens) for field, form in fields)
+
+
+def reply_frame(text):
+    """The frame of a reply's text, read back apart from the code that shows it."""
+    tokens = re.findall(r'"(?:\\.|[^"\\])*"|[\[\];]|[^\s\[\];]+', text)
+    assert tokens.pop(0) == "lane"
+    lane = int(tokens.pop(0))
+    body = bytes([lane]) + reply_bytes(tokens)
+    assert not tokens, tokens
+    return frames.frame(frames.REPLY, body)
+
+
 def run(command, data):
     return subprocess.run([sys.executable, os.path.join(HERE, "frames.py"), command], input=data, capture_output=True)
 
@@ -111,6 +163,10 @@ def test_replies_are_shown():
     done = run("show", bytes.fromhex("".join(frame for frame, _ in REPLIES)))
     assert done.returncode == 0
     assert done.stdout.decode().splitlines() == [text for _, text in REPLIES]
+    for want, text in REPLIES:
+        frame = reply_frame(text)
+        assert frame == bytes.fromhex(want), text
+        assert list(frames.reply_texts(frame)) == [text], text
 
 
 def test_bad_lines_are_refused():
