@@ -1,6 +1,7 @@
 -- What a client keeps in a run: how many numbers it drew, the last pair, and the greatest position noted.
-use Rattle.std.specs.Prelude.{◌≡◌, ℕ, ◌+◌, ◌-◌, ◌*◌, ◌^◌, ◌<◌, ◌≤◌, nat_lt, if◌then◌else◌, List, [], ◌∷◌, Option, Some, None}
+use Rattle.std.specs.Prelude.{◌≡◌, ℕ, ◌+◌, ◌-◌, ◌<◌, ◌≤◌, nat_lt, if◌then◌else◌, List, [], ◌∷◌, Option, Some, None}
 use Rattle.std.specs.Option.{MatchOption}
+use Rattle.log_base.specs.Draws.{number_of_draw}
 use Rattle.log_base.specs.declared.numbers.Position.{Position}
 use Rattle.client_session.specs.declared.pair.Pair.{Pair}
 
@@ -15,10 +16,6 @@ pub record Drawing : Type 0 where
 -- nothing is drawn or noted yet
 abbrev pub fresh : ℕ → ℕ → Drawing
 fresh client run = record { client = client; run = run; draws = 0; last = None; greatest = None }
-
--- the k-th number that a client draws in a run, from 0
-abbrev pub number_of_draw : ℕ → ℕ → ℕ
-number_of_draw run k = run * 2 ^ 32 + k
 
 -- the k-th pair that a client draws in a run, for a node
 abbrev pub pair_at : ℕ → ℕ → ℕ → ℕ → Pair

@@ -5,7 +5,8 @@ ghost use Rattle.std.specs.Prelude.{◌≡◌, ◌<◌, ◌≤◌, ℕ, List, []
 ghost use Rattle.std.specs.Option.{MatchOption};
 ghost use Rattle.std.specs.List.{All, Contains};
 ghost use Rattle.log_base.specs.declared.numbers.Position.{Position};
-ghost use Rattle.client_session.specs.Sessions.{Drawing, after_notes, number_of_draw};
+ghost use Rattle.log_base.specs.Draws.{number_of_draw};
+ghost use Rattle.client_session.specs.Sessions.{Drawing, after_notes};
 
 /// No number is drawn twice, in one run or in two.
 pub fn numbers_differ()

@@ -1,8 +1,8 @@
 //! Reading a frame from a source.
 
-ghost use Rattle.std.specs.Prelude.{◌≡◌, ℕ, ◌<◌, ◌≤◌, length, slice_index, IfOk};
+ghost use Rattle.std.specs.Prelude.{◌≡◌, ℕ, ◌<◌, ◌≤◌, length, slice_index, IfOk, OnErr};
 ghost use Rattle.std.specs.Io.KnownBytes.{Consumes, IsAtEnd};
-ghost use Rattle.log_base.specs.Outside.{Rose, unread};
+ghost use Rattle.log_base.specs.Outside.{Rose, unread, ReadsOn, TakesOn};
 ghost use Rattle.log_base.specs.Shape.{shape};
 ghost use Rattle.command_frame.specs.Reader.{Finds};
 
@@ -23,6 +23,8 @@ pub fn read_framed<S: Source>(
     source: &mut S,
 ) -> Result<Next, ItemFault>
     ensures finds { Finds (shape config.now) (unread pieces.old.pending (S.left source.old)) (unread pieces.new.pending (S.left source.new)) result }
+    ensures passes { ReadsOn (unread pieces.old.pending (S.left source.old)) (unread pieces.new.pending (S.left source.new)) }
+    ensures taken { TakesOn pieces.old.taken pieces.new.taken (S.left source.old) (S.left source.new) }
     ensures bad { (at : ℕ) → result ≡ Err (ItemFault.Bad at) → at ≡ place }
     ensures read { (at : ℕ) → result ≡ Err (ItemFault.Read at) → Rose (S.faults source.old) (S.faults source.new) × (at ≡ pieces.new.taken) }
     ensures later { S.faults source.old ≤ S.faults source.new }
@@ -59,6 +61,8 @@ fn take<S: Source>(
     ensures count { IfOk result (λ bytes. length bytes.items ≤ wanted) }
     ensures short { IfOk result (λ bytes. length bytes.items < wanted → IsAtEnd (unread pieces.new.pending (S.left source.new))) }
     ensures fits { IfOk result (λ bytes. (k : ℕ) → slice_index bytes.items k < 256) }
+    ensures err { OnErr result (ReadsOn (unread pieces.old.pending (S.left source.old)) (unread pieces.new.pending (S.left source.new))) }
+    ensures taken { TakesOn pieces.old.taken pieces.new.taken (S.left source.old) (S.left source.new) }
     ensures read { (at : ℕ) → result ≡ Err (ItemFault.Read at) → Rose (S.faults source.old) (S.faults source.new) × (at ≡ pieces.new.taken) }
     ensures bad { (at : ℕ) → result ≡ Err (ItemFault.Bad at) → ⊥ }
     ensures many { (cause : ℕ) → result ≡ Err (ItemFault.Many cause) → ⊥ }

@@ -1,7 +1,7 @@
 //! The reader of items.
 
 ghost use Rattle.std.specs.Prelude.{◌≡◌, ℕ, ◌+◌, ◌≤◌, [], length, Some, None, IfSome};
-ghost use Rattle.log_base.specs.Outside.{Rose, unread};
+ghost use Rattle.log_base.specs.Outside.{Rose, unread, ReadsOn, TakesOn};
 ghost use Rattle.log_base.specs.Shape.{shape};
 ghost use Rattle.command_frame.specs.Items.{IsItem, item_spelling, counted, none_yet, passed_limit};
 ghost use Rattle.command_frame.specs.Reader.{Answers, Moves};
@@ -76,6 +76,8 @@ impl ItemReader {
     /// The next item of the source.
     pub fn next<S: Source>(&mut self, source: &mut S) -> Result<Next, ItemFault>
         ensures answers { self.old.fault ≡ None → Answers self.old (unread self.old.pending (S.left source.old)) (unread self.new.pending (S.left source.new)) result }
+        ensures passes { self.old.fault ≡ None → ReadsOn (unread self.old.pending (S.left source.old)) (unread self.new.pending (S.left source.new)) }
+        ensures taken { self.old.fault ≡ None → TakesOn self.old.taken self.new.taken (S.left source.old) (S.left source.new) }
         ensures moves { self.old.fault ≡ None → Moves self.old self.new result }
         ensures read { self.old.fault ≡ None → (at : ℕ) → result ≡ Err (ItemFault.Read at) → Rose (S.faults source.old) (S.faults source.new) × (at ≡ self.new.taken) }
         ensures again { IfSome self.old.fault (λ fault. (result ≡ Err fault) × (self.new ≡ self.old) × (source.new ≡ source.old)) }

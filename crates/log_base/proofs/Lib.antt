@@ -1,2 +1,5 @@
 pub mod Cuts
+pub mod Legal
+pub mod Rooms
+pub mod Taking
 pub mod Wide

@@ -1,6 +1,6 @@
 -- What a source has left, what a sink has taken, and the cause of a fault.
-use Rattle.std.specs.Prelude.{◌≡◌, ℕ, ◌+◌, ◌-◌, ◌^◌, ◌≤◌, min, List, Result, OnErr, Option}
-use Rattle.std.specs.Io.KnownBytes.{prepend_known}
+use Rattle.std.specs.Prelude.{◌≡◌, ℕ, ◌+◌, ◌-◌, ◌^◌, ◌≤◌, min, List, length, Result, OnErr, Option}
+use Rattle.std.specs.Io.KnownBytes.{Consumes, prepend_known}
 
 -- A count of faults rose. At the end of its type it stands still.
 abbrev pub Rose : ℕ → ℕ → Type 0
@@ -14,6 +14,14 @@ pub record HasCause {T E : Type 0} (before now : ℕ) (result : Result T E) : Ty
 -- what is still to be read: the bytes taken from the source and not used yet, and what it has left
 abbrev pub unread : List ℕ → Option (List ℕ) → Option (List ℕ)
 unread pending left = prepend_known pending left
+
+-- some bytes were read, and what stands after them is left
+abbrev pub ReadsOn : Option (List ℕ) → Option (List ℕ) → Type 0
+ReadsOn before after = (bytes : List ℕ) × Consumes before after bytes
+
+-- a reader took some bytes from its source, and its count of them grew by as many, up to the end of the type
+abbrev pub TakesOn : ℕ → ℕ → Option (List ℕ) → Option (List ℕ) → Type 0
+TakesOn old new before after = (bytes : List ℕ) × Consumes before after bytes × (new ≡ min (old + length bytes) (2 ^ 64 - 1))
 
 -- a source in memory
 pub record Reading : Type 0 where

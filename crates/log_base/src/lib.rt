@@ -8,7 +8,9 @@
 mod big_endian;
 mod cluster_shape;
 mod listed;
+mod machine;
 mod numbers;
+mod outbox;
 mod outside;
 mod owned;
 mod pieces;
@@ -21,7 +23,9 @@ pub use big_endian::{
     put_u32, put_u64,
 };
 pub use cluster_shape::{BadConfig, Config};
+pub use machine::{Committed, Machine};
 pub use numbers::{Ballot, Client, NodeId, Number, Place, Position, Replica, Shard, Slot};
+pub use outbox::Outbox;
 pub use outside::{Failed, Memory, Sink, Source};
 pub use owned::{Bytes, List, Text};
 pub use pieces::{PieceReader, Stop};
@@ -29,5 +33,7 @@ pub use sending::{SendFault, send};
 pub use sinks::MemorySink;
 pub use sources::MemorySource;
 
+#[cfg(test)]
+mod machine_tests;
 #[cfg(test)]
 mod tests;

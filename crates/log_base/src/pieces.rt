@@ -1,8 +1,8 @@
 //! A reader that takes pieces of 4,096 bytes from a source and gives as many bytes as are wanted.
 
-ghost use Rattle.std.specs.Prelude.{◌≡◌, ◌≢◌, ℕ, ◌<◌, ◌≤◌, ◌↔◌, [], ◌++◌, length, vec_len, vec_capacity, slice_index, IsTrue, OnOk, IfOk};
+ghost use Rattle.std.specs.Prelude.{◌≡◌, ◌≢◌, ℕ, ◌<◌, ◌≤◌, ◌↔◌, [], ◌++◌, length, vec_len, vec_capacity, slice_index, IsTrue, OnOk, IfOk, OnErr};
 ghost use Rattle.std.specs.Io.KnownBytes.{Consumes, IsAtEnd, Keeps};
-ghost use Rattle.log_base.specs.Outside.{HasCause, Rose, unread};
+ghost use Rattle.log_base.specs.Outside.{HasCause, Rose, unread, ReadsOn, TakesOn};
 
 use crate::big_endian::put_bytes;
 use crate::outside::{Failed, Source};
@@ -77,6 +77,7 @@ impl PieceReader {
     fn refill<S: Source>(&mut self, source: &mut S) -> Result<(), Failed>
         ensures bytes { Keeps (unread self.old.pending (S.left source.old)) (unread self.new.pending (S.left source.new)) }
         ensures end { OnOk result (self.new.pending ≡ [] → IsAtEnd (unread self.new.pending (S.left source.new))) }
+        ensures taken { TakesOn self.old.taken self.new.taken (S.left source.old) (S.left source.new) }
         ensures cause { HasCause (S.faults source.old) (S.faults source.new) result }
     {
         if self.at < self.filled {
@@ -100,9 +101,12 @@ impl PieceReader {
         ensures count { IfOk result (λ bytes. length bytes.items ≤ wanted) }
         ensures short { IfOk result (λ bytes. length bytes.items < wanted → IsAtEnd (unread self.new.pending (S.left source.new))) }
         ensures fits { IfOk result (λ bytes. (k : ℕ) → slice_index bytes.items k < 256) }
+        ensures err { OnErr result (ReadsOn (unread self.old.pending (S.left source.old)) (unread self.new.pending (S.left source.new))) }
+        ensures taken { TakesOn self.old.taken self.new.taken (S.left source.old) (S.left source.new) }
         ensures later { S.faults source.old ≤ S.faults source.new }
         ensures read { result ≡ Err Stop.Read → Rose (S.faults source.old) (S.faults source.new) }
     {
+        let _ = &self.taken;
         let mut bytes = Vec::with_capacity(alloc, wanted)?;
         'bytes: while bytes.len() < wanted {
             match self.refill(source) {

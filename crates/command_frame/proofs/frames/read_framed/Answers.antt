@@ -2,6 +2,7 @@ use Rattle.std.proofs.Common.{◌≡◌, ℕ, ◌<◌, List, None, Some, length,
 use Rattle.std.proofs.lemmas.Bool.{eqb-false}
 use Rattle.log_base.specs.Shape.{shape}
 use Rattle.log_base.specs.Wide.{number4}
+use Rattle.log_base.proofs.Taking.{reads_then, takes_then}
 use Rattle.command_frame.specs.Reading.{item_of}
 use Rattle.command_frame.proofs.FrameLaws.{head_cut_short, wrong_number, body_cut_short, not_an_item, is_an_item}
 use Rattle.command_frame.proofs.frames.read_framed.Goals as goal
@@ -43,3 +44,34 @@ returns-clause-finds g c =
     let none : item_of (shape c.args.config.now) (get_or c.in_ok-frame.frame.items 0 0) (drop 1 c.in_ok-frame.frame.items) ≡ None =
     ap (λ (l : List ℕ). item_of (shape c.args.config.now) (get_or l 0 0) (drop 1 l)) (sym c.deref-2.ensures.value) ∙ sym c.in_ok-item.ensures ∙ c.in-None.is in
     not_an_item (shape c.args.config.now) _ _ _ _ _ c.args.config.now.in_range c.in_ok-head.ensures.bytes four c.in_ok-frame.ensures.bytes (whole ∙ number) (omega arith) none
+
+-- the head was read, and then as much of the frame as there is
+pub returns-in_err-frame-clause-passes : goal.returns-in_err-frame-clause-passes
+returns-in_err-frame-clause-passes g c = reads_then _ _ _ (_, c.in_ok-head.ensures.bytes) c.in_err-frame.ensures.err
+
+pub returns-in_err-frame-clause-taken : goal.returns-in_err-frame-clause-taken
+returns-in_err-frame-clause-taken g c = takes_then _ _ _ _ _ _ c.take.ensures.taken c.take-2.ensures.taken
+
+pub returns-then-len-length-clause-passes : goal.returns-then-len-length-clause-passes
+returns-then-len-length-clause-passes g c = reads_then _ _ _ (_, c.in_ok-head.ensures.bytes) (_, c.in_ok-frame.ensures.bytes)
+
+pub returns-then-len-length-clause-taken : goal.returns-then-len-length-clause-taken
+returns-then-len-length-clause-taken g c = takes_then _ _ _ _ _ _ c.take.ensures.taken c.take-2.ensures.taken
+
+pub returns-in_err-item-clause-passes : goal.returns-in_err-item-clause-passes
+returns-in_err-item-clause-passes g c = reads_then _ _ _ (_, c.in_ok-head.ensures.bytes) (_, c.in_ok-frame.ensures.bytes)
+
+pub returns-in_err-item-clause-taken : goal.returns-in_err-item-clause-taken
+returns-in_err-item-clause-taken g c = takes_then _ _ _ _ _ _ c.take.ensures.taken c.take-2.ensures.taken
+
+pub returns-in-Some-clause-passes : goal.returns-in-Some-clause-passes
+returns-in-Some-clause-passes g c = reads_then _ _ _ (_, c.in_ok-head.ensures.bytes) (_, c.in_ok-frame.ensures.bytes)
+
+pub returns-in-Some-clause-taken : goal.returns-in-Some-clause-taken
+returns-in-Some-clause-taken g c = takes_then _ _ _ _ _ _ c.take.ensures.taken c.take-2.ensures.taken
+
+pub returns-clause-passes : goal.returns-clause-passes
+returns-clause-passes g c = reads_then _ _ _ (_, c.in_ok-head.ensures.bytes) (_, c.in_ok-frame.ensures.bytes)
+
+pub returns-clause-taken : goal.returns-clause-taken
+returns-clause-taken g c = takes_then _ _ _ _ _ _ c.take.ensures.taken c.take-2.ensures.taken
