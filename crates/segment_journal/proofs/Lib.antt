@@ -1,0 +1,9 @@
+pub mod Comparisons
+pub mod Crash
+pub mod Journals
+pub mod Openings
+pub mod Places
+pub mod Puts
+pub mod ReadingLemmas
+pub mod Recovery
+pub mod Spellings
