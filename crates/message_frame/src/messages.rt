@@ -15,34 +15,35 @@ pub struct Vote {
 /// orderers, and the others are those of Paxos, with `Want` asking for decided values.
 #[derive(Debug, Drop)]
 pub enum Message {
-    /// An entry of a segment, from its primary to a peer.
+    /// An entry of a segment, from its primary to a peer. The offset is at most 16,383.
     Copy {
         segment: Replica,
         offset: u32,
         entry: Entry,
     },
-    /// How much of the primary's segment a peer holds.
+    /// How much of the primary's segment a peer holds, at most 16,384 entries.
     CopyAck {
         peer: Replica,
         length: u32,
     },
-    /// How much a replica holds of each segment of its shard.
+    /// How much a replica holds of each segment of its shard, which has 1 to 5.
     Report {
         shard: Shard,
         replica: Replica,
         lengths: Lengths,
     },
-    /// How much every replica of a shard holds of each of its segments.
+    /// How much every replica of a shard holds of each of its segments, which are 1 to 5.
     Least {
         shard: Shard,
         lengths: Lengths,
     },
-    /// Asks for a promise, and for the votes in the window of slots from one on.
+    /// Asks for a promise, and for the votes in the window of 64 slots from one on, at most 16,384.
     Prepare {
         ballot: Ballot,
         from: Slot,
     },
-    /// An orderer's promise, with its votes in the window.
+    /// An orderer's promise, with at most 64 votes in the window, in order of slots, one a slot. `who` is
+    /// the orderer's number, at most 6.
     Promised {
         ballot: Ballot,
         from: Slot,
