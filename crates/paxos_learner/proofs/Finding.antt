@@ -7,7 +7,7 @@ use Rattle.std.proofs.lemmas.Option.{slice_get_within}
 use Rattle.record_frame.specs.declared.values.Value.{Value}
 use Rattle.paxos_model.specs.Values.{same_value}
 use Rattle.paxos_model.specs.Learner.{find_from, find_value}
-use Rattle.paxos_learner.proofs.Same.{same_value-true, same_value-refl}
+use Rattle.paxos_model.proofs.Same.{same_value-true, same_value-refl}
 
 -- none of the places of a list, which begins with the slot `at`, holds the value from a slot on
 abbrev Nowhere : ℕ → List Value → Value → ℕ → Type 0

@@ -1,1 +1,4 @@
 pub mod Ballots
+pub mod Merging
+pub mod Payloads
+pub mod Same

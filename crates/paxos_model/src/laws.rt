@@ -1,7 +1,8 @@
 //! Worked examples and small laws, which show that the definitions mean what they should. Each
 //! function does nothing: its contract is the law.
 
-ghost use Rattle.std.specs.Prelude.{◌≡◌, ◌<◌, ◌≤◌, ◌+◌, ◌*◌, ◌%◌, ℕ, List, [], ◌∷◌, true, false};
+ghost use Rattle.std.specs.Prelude.{◌≡◌, ◌<◌, ◌≤◌, ◌+◌, ◌*◌, ◌%◌, ℕ, List, [], ◌∷◌, length, Some, true, false};
+ghost use Rattle.log_base.specs.Wide.{IsBytes};
 ghost use Rattle.message_frame.specs.declared.messages.Vote.{Vote};
 ghost use Rattle.record_frame.specs.declared.values.Value.{Value};
 ghost use Rattle.record_frame.specs.declared.values.Value.TheVariants.{Add, Noop};
@@ -9,6 +10,7 @@ ghost use Rattle.paxos_model.specs.Acceptor.{Granted, Refused, Taken, TooLow, ac
 ghost use Rattle.paxos_model.specs.Leader.{Advanced, Leader, Propose, Pending, Nothing, Window, advance, ballot_above, leader_from, with_acceptance, with_promise};
 ghost use Rattle.paxos_model.specs.Learner.{find_value, learn};
 ghost use Rattle.paxos_model.specs.Majority.{count_marks, most, no_marks};
+ghost use Rattle.paxos_model.specs.Payloads.{IsPayload, payload_limit, payload_of, payload_spelling};
 ghost use Rattle.paxos_model.specs.Votes.{Payload, Promise, Voted, vote_of};
 
 /// An acceptor that promised ballot 4 refuses 3, accepts in 4, and tells that vote to a later ballot.
@@ -72,4 +74,12 @@ pub fn ballots_are_apart()
     ensures least { (orderers orderer number round : ℕ)
         → orderer < orderers → 1 ≤ round → number < round * orderers + orderer
         → ballot_above orderers orderer number ≤ round * orderers + orderer }
+{}
+
+/// The bytes of a list's payloads: what is spelled is read, and what is read is spelled so and in range.
+pub fn payloads_are_spelled()
+    ensures spelled { (payload : Payload) → IsPayload payload → payload_of (payload_spelling payload) ≡ Some payload }
+    ensures read { (bytes : List ℕ) (payload : Payload) → IsBytes bytes → payload_of bytes ≡ Some payload
+        → IsPayload payload × (payload_spelling payload ≡ bytes) }
+    ensures short { (payload : Payload) → IsPayload payload → length (payload_spelling payload) ≤ payload_limit }
 {}

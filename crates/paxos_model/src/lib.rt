@@ -6,5 +6,5 @@ mod laws;
 
 pub use laws::{
     acceptances_are_counted, acceptor_example, ballots_are_apart, gap_is_filled,
-    reported_vote_wins, slots_in_order,
+    payloads_are_spelled, reported_vote_wins, slots_in_order,
 };

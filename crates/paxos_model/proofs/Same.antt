@@ -1,5 +1,5 @@
 -- Two values are the same where the test says so.
-use Rattle.std.proofs.Common.{◌≡◌, ◌==◌, ℕ, true, List, [], ◌∷◌, refl, ap₂, eqb-true, eq-eqb}
+use Rattle.std.proofs.Common.{◌≡◌, ◌==◌, ◌↔◌, ℕ, Bool, true, false, IsTrue, List, [], ◌∷◌, refl, sym, ap, ap₂, ◌∙◌, eqb-true, eq-eqb}
 use Rattle.std.proofs.lemmas.Bool.{and_from, and_parts}
 use Rattle.record_frame.specs.declared.values.Value.{Value}
 use Rattle.record_frame.specs.declared.values.Value.TheVariants.{Noop, Cut, Add, Finalise, Trim}
@@ -54,3 +54,12 @@ same_value-refl (Cut a) = and_from (a.count == a.count) (same_numbers a.length a
 same_value-refl (Add a) = eq-eqb a.0 a.0 refl
 same_value-refl (Finalise a) = eq-eqb a.0 a.0 refl
 same_value-refl (Trim a) = eq-eqb a.0 a.0 refl
+
+-- what a test for sameness gives
+pub same_value-tested : (tested : Bool) (a b : Value) → IsTrue tested ↔ (a ≡ b) → tested ≡ same_value a b
+same_value-tested true a b says = sym (ap (same_value a) (sym (says.0 refl)) ∙ same_value-refl a)
+same_value-tested false a b says = differ (same_value a b) refl
+  where
+    differ : (same : Bool) → same_value a b ≡ same → false ≡ same
+    differ false e = refl
+    differ true e = says.1 (same_value-true a b e)

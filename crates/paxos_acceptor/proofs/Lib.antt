@@ -1,0 +1,4 @@
+pub mod Greatest
+pub mod Noted
+pub mod Passing
+pub mod Reporting
