@@ -1,4 +1,10 @@
+pub mod Asking
 pub mod Chain
+pub mod Learning
 pub mod Lookup
+pub mod Pairs
 pub mod Places
+pub mod Reading
 pub mod Spelling
+pub mod Storage
+pub mod Submitting
