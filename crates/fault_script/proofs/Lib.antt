@@ -1,0 +1,10 @@
+pub mod AllowedNumbers
+pub mod DecimalText
+pub mod KindLaws
+pub mod KindReading
+pub mod KindsSoFar
+pub mod NumberSteps
+pub mod NumbersSoFar
+pub mod OneText
+pub mod SharedFronts
+pub mod WordSteps
