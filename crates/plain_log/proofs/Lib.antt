@@ -1,3 +1,4 @@
+pub mod Entries
 pub mod Answering
 pub mod Coherent
 pub mod Lists
@@ -5,3 +6,4 @@ pub mod OneSegment
 pub mod Room
 pub mod Sequence
 pub mod Sizes
+pub mod Stored

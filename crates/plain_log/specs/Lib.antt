@@ -1,3 +1,5 @@
+pub mod Answering
+pub mod Halting
 pub mod Log
 pub mod OneSegment
 pub mod Room

@@ -1,7 +1,8 @@
 -- The log of one thread: items answered one after another by looking in one sequence. Its state is the list
 -- of values, the list of entries of each segment, and how many numbers each lane has drawn.
-use Rattle.std.specs.Prelude.{ℕ, ◌+◌, ◌-◌, ◌*◌, ◌^◌, List, [], ◌∷◌, ◌++◌, map, length, slice_index, slice_index_or, slice_set, nat_lt, Bool, if◌then◌else◌, Option, Some, None, replicate}
+use Rattle.std.specs.Prelude.{ℕ, ◌+◌, ◌-◌, ◌*◌, List, [], ◌∷◌, ◌++◌, map, length, slice_index, slice_index_or, slice_set, nat_lt, Bool, if◌then◌else◌, Option, Some, None, replicate}
 use Rattle.log_base.specs.ClusterShape.{Shape}
+use Rattle.log_base.specs.Draws.{number_of_draw}
 use Rattle.log_base.specs.declared.numbers.Position.{Position}
 use Rattle.record_frame.specs.declared.entries.Entry.{Entry}
 use Rattle.record_frame.specs.declared.values.Lengths.{Lengths}
@@ -22,10 +23,6 @@ pub record LogState : Type 0 where
 -- nothing is decided, no segment has an entry, and none of the 64 lanes has drawn a number
 abbrev pub start : Shape → LogState
 start shape = record { values = []; segments = replicate (shape.shards * shape.replicas) []; draws = replicate 64 0 }
-
--- the k-th number that a lane draws in a run, from 0
-abbrev pub number_of_draw : ℕ → ℕ → ℕ
-number_of_draw run k = run * 2 ^ 32 + k
 
 -- the entry that a lane appends next
 abbrev pub next_entry : ℕ → LogState → ℕ → List ℕ → Entry

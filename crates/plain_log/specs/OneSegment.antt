@@ -1,12 +1,15 @@
 -- A log of one segment: one replica of one shard. Its values make the entries, in their order, the sequence.
-use Rattle.std.specs.Prelude.{◌≡◌, ℕ, ◌≤◌, List, [], ◌∷◌, length, Bool, true, false}
+use Rattle.std.specs.Prelude.{◌≡◌, ℕ, ◌≤◌, List, [], ◌∷◌, map, length, Bool, true, false, Result, Ok, Err}
 use Rattle.std.specs.List.{All}
 use Rattle.log_base.specs.ClusterShape.{Shape}
 use Rattle.record_frame.specs.declared.entries.Entry.{Entry}
+use Rattle.record_frame.specs.declared.refusals.Refusal.{Refusal}
 use Rattle.record_frame.specs.declared.values.Value.{Value}
+use Rattle.record_frame.specs.Entries.{IsEntry, entry_at, entry_spelling}
 use Rattle.log_model.specs.Chain.{ShardState, Live, chain_of}
 use Rattle.log_model.specs.Places.{places_from}
 use Rattle.log_model.specs.Spelling.{spell}
+use Rattle.segment_journal.specs.Journalled.{Journalled}
 use Rattle.command_frame.specs.Replies.{IsShort}
 use Rattle.plain_log.specs.Log.{LogState}
 
@@ -15,10 +18,33 @@ abbrev pub smallest : Shape
 smallest = record { replicas = 1; shards = 1; orderers = 1; gatherers = 1 }
 
 -- what contracts see of a plain log
-pub record Plain : Type 0 where
+pub record Plain (J : Type 0) : Type 0 where
   pub config : Shape
   pub run : ℕ
   pub log : LogState
+  pub journal : J
+
+-- the entry that was read, or an empty one
+abbrev pub entry_found : Result (Entry × ℕ) Refusal → Entry
+entry_found (Ok found) = found.0
+entry_found (Err refusal) = record { client = record { 0 = 0 }; number = record { 0 = 0 }; bytes = [] }
+
+-- the entry that a payload begins with
+abbrev pub entry_in : List ℕ → Entry
+entry_in payload = entry_found (entry_at payload 0)
+
+abbrev pub entries_in : List (List ℕ) → List Entry
+entries_in payloads = map entry_in payloads
+
+-- a payload spells an entry
+pub record SpellsEntry (payload : List ℕ) : Type 0 where
+  pub entry : IsEntry (entry_in payload)
+  pub spells : payload ≡ entry_spelling (entry_in payload)
+
+-- the payloads of a journal are the spelled entries, from offset 0
+pub record KeepsEntries (journal : Journalled) : Type 0 where
+  pub first : journal.first ≡ 0
+  pub each : All SpellsEntry journal.payloads
 
 -- the shards in order of addition: at most the one, of whose entries so many are covered
 abbrev pub shards_with : Bool → ℕ → List ShardState

@@ -1,7 +1,7 @@
 //! Laws that show that the definitions mean what they should. Each function does nothing: its
 //! contract is the law.
 
-ghost use Rattle.std.specs.Prelude.{◌≡◌, ◌<◌, ℕ, true, List, [], ◌∷◌, ◌++◌, length};
+ghost use Rattle.std.specs.Prelude.{◌≡◌, ◌<◌, ℕ, true, List, [], ◌∷◌, ◌++◌, length, Option, Some, None};
 ghost use Rattle.std.specs.List.{AllByRecursion};
 ghost use Rattle.log_base.specs.ClusterShape.{Shape};
 ghost use Rattle.log_base.specs.declared.numbers.Position.{Position};
@@ -11,9 +11,10 @@ ghost use Rattle.record_frame.specs.declared.entries.Entry.{Entry};
 ghost use Rattle.log_model.specs.Chain.{chain_of};
 ghost use Rattle.command_frame.specs.declared.items.Item.{Item};
 ghost use Rattle.command_frame.specs.declared.items.Item.TheVariants.{Append, Read, Add};
-ghost use Rattle.command_frame.specs.declared.replies.Reply.{Settled, At, Found};
+ghost use Rattle.command_frame.specs.declared.replies.Reply.{Settled, At, Found, Halted, Down};
 ghost use Rattle.command_frame.specs.Items.{IsItem};
 ghost use Rattle.plain_log.specs.Log.{LogState, log_of, start, state_after, replies_from, reply_to, knows, after, next_entry};
+ghost use Rattle.plain_log.specs.Halting.{log_with_halt, IsHaltOf};
 ghost use Rattle.plain_log.specs.OneSegment.{smallest};
 
 /// An addition, an append and a read, answered.
@@ -36,6 +37,17 @@ pub fn answers_go_on()
     ensures state { (shape : Shape) (run : ℕ) (state : LogState) (items more : List Item)
         → state_after shape run state (items ++ more)
         ≡ state_after shape run (state_after shape run state items) more }
+{}
+
+/// Where no put fails, the replies are those of the log of one thread. Where one fails, so are the replies
+/// before it, its own is a halt, and from then on appends and reads find the replica down.
+pub fn halt_goes_on()
+    ensures none { (shape : Shape) (run : ℕ) (items : List Item) → log_with_halt shape run items None ≡ log_of shape run items }
+    ensures each { (shape : Shape) (run : ℕ) (items : List Item) (halt : Option ℕ) → IsHaltOf shape run items halt
+        → length (log_with_halt shape run items halt) ≡ length items }
+    ensures row { log_with_halt smallest 1
+        (Add 0 (record { 0 = 0 }) ∷ Append 0 (record { 0 = 0 }) (record { 0 = 0 }) (97 ∷ []) ∷ Read 0 (record { 0 = 0 }) (record { 0 = 0 }) (record { 0 = 0 }) ∷ Add 0 (record { 0 = 0 }) ∷ []) (Some 1)
+        ≡ Settled (record { 0 = 0 }) ∷ Halted ∷ Down ∷ Settled (record { 0 = 1 }) ∷ [] }
 {}
 
 /// In each state that items lead to, a read below the end finds an entry.

@@ -1,76 +1,103 @@
-//! A plain program for a log of one segment.
+//! A plain program for a log of one segment, whose entries a journal keeps.
 
-ghost use Rattle.std.specs.Prelude.{◌≡◌, ◌+◌, ◌<◌, ◌≤◌, [], ◌∷◌, ◌++◌, length, slice_index, slice_set, replicate, OnOk, OnErr, IfOk};
+ghost use Rattle.std.specs.Prelude.{◌≡◌, ℕ, ◌+◌, ◌<◌, ◌≤◌, map, length, slice_index, slice_set, IfOk, OnErr};
 ghost use Rattle.log_base.specs.Shape.{shape};
+ghost use Rattle.log_base.specs.Wide.{IsBytes};
+ghost use Rattle.log_base.specs.Draws.{number_of_draw};
 ghost use Rattle.log_base.specs.declared.numbers.Replica.{Replica};
-ghost use Rattle.record_frame.specs.declared.values.Value.TheVariants.{Cut, Add as AddValue};
-ghost use Rattle.command_frame.specs.declared.items.Item.TheVariants.{Append};
-ghost use Rattle.command_frame.specs.declared.replies.Reply.{Settled};
+ghost use Rattle.record_frame.specs.Entries.{entry_spelling};
+ghost use Rattle.segment_journal.specs.Journalled.{end_of};
+ghost use Rattle.command_frame.specs.declared.items.Item.TheVariants.{Append, Read, Add};
 ghost use Rattle.command_frame.specs.Items.{IsItem};
 ghost use Rattle.command_frame.specs.Replies.{HasSpelling};
-ghost use Rattle.plain_log.specs.Log.{start, after, reply_to, read_in, number_of_draw};
+ghost use Rattle.plain_log.specs.Answering.{Answers, IsAsBefore, standing};
+ghost use Rattle.plain_log.specs.Halting.{first_entries};
+ghost use Rattle.plain_log.specs.Log.{start};
 ghost use Rattle.plain_log.specs.Room.{HasRoom};
 
+use crate::storing::{Unstored, store};
 use command_frame::{Item, Reply};
 use log_base::{Bytes, Client, Config, Memory, Number, Position, Shard, Slot};
-use record_frame::{Entry, Lengths, Value};
+use record_frame::{Refusal, Value, read_entry};
+use segment_journal::Journal;
 use std::alloc::Global;
 use std::marker::Model;
 
-/// A log of one segment, which answers items one after another.
+/// A log of one segment, which answers items one after another. Its entries are the payloads of a journal.
+/// Once a put failed it is down: then it answers additions, and refuses appends and reads.
 #[derive(Drop)]
-pub struct PlainLog {
+pub struct PlainLog<J: Journal> {
     alloc: Global,
     config: Config,
     run: u32,
     values: Vec<Value>,
-    entries: Vec<Entry>,
+    journal: J,
+    // What was put last.
+    payload: Vec<u8>,
     draws: [u32; 64],
     added: bool,
 }
 
-impl Model for PlainLog {
+impl<J: Journal> Model for PlainLog<J> {
     ghost use Rattle.std.specs.Prelude.{[], ◌∷◌};
     ghost use Rattle.log_base.specs.Shape.{shape};
-    ghost use Rattle.plain_log.specs.OneSegment.{Plain, IsOneSegment};
+    ghost use Rattle.plain_log.specs.OneSegment.{Plain, IsOneSegment, KeepsEntries, entries_in};
 
-    ghost Value = { Plain };
+    ghost Value = { Plain J };
 
     ghost view = { λ p. record {
       config = shape p.config;
       run = p.run;
-      log = record { values = p.values.items; segments = p.entries.items ∷ []; draws = p.draws };
+      log = record { values = p.values.items; segments = entries_in (J.state p.journal).payloads ∷ []; draws = p.draws };
+      journal = p.journal;
     } };
 
-    ghost invariant = { λ p. IsOneSegment (shape p.config) p.run p.values.items p.entries.items p.added };
+    ghost invariant = { λ p. KeepsEntries (J.state p.journal) × IsOneSegment (shape p.config) p.run p.values.items (entries_in (J.state p.journal).payloads) p.added };
 }
 
-impl PlainLog {
-    /// The log at the start of a run.
-    pub fn new(alloc: Global, config: Config, run: u32) -> PlainLog
+impl<J: Journal> PlainLog<J> {
+    /// The log at the start of a run, over an empty journal.
+    pub fn new(alloc: Global, config: Config, run: u32, journal: J) -> PlainLog<J>
         requires one_replica { (shape config).replicas ≡ 1 }
         requires one_shard { (shape config).shards ≡ 1 }
         requires run { run ≤ 1000000 }
-        ensures { result ≡ record { config = shape config; run = run; log = start (shape config) } }
+        requires empty { end_of (J.state journal) ≡ 0 }
+        ensures { result ≡ record { config = shape config; run = run; log = start (shape config); journal = journal } }
     {
         PlainLog {
             alloc,
             config,
             run,
             values: Vec::new(alloc),
-            entries: Vec::new(alloc),
+            journal,
+            payload: Vec::new(alloc),
             draws: [0; 64],
             added: false,
         }
     }
 
-    /// Answers an item, in constant time but for the bytes of its record and where a list grows.
+    /// Gives the journal back. Its payloads are the entries.
+    pub fn into_journal(self) -> J
+        ensures journal { result ≡ self.journal }
+        ensures payloads { (J.state result).payloads ≡ map entry_spelling (first_entries self.log) }
+    {
+        self.journal
+    }
+
+    /// Answers an item, in constant time but for the bytes of its record and where a list grows. The entry of
+    /// an append is put into the journal before its reply is made.
     pub fn answer(&mut self, item: Item) -> Result<Reply, Memory>
         requires item { IsItem self.old.config item }
         requires room { HasRoom self.old.log 65535 }
-        ensures reply { IfOk result (λ reply. reply ≡ reply_to self.old.config self.old.run self.old.log item) }
-        ensures after { OnOk result (self.new ≡ record self.old { log = after self.old.config self.old.run self.old.log item }) }
-        ensures err { OnErr result (self.new ≡ self.old) }
+        ensures answers { IfOk result (Answers self.old.config self.old.run
+            (standing self.old.log (J.state self.old.journal) (J.faults self.old.journal))
+            (standing self.new.log (J.state self.new.journal) (J.faults self.new.journal)) item) }
+        ensures err { OnErr result (IsAsBefore
+            (standing self.old.log (J.state self.old.journal) (J.faults self.old.journal))
+            (standing self.new.log (J.state self.new.journal) (J.faults self.new.journal))) }
+        ensures fixed { self.new ≡ record self.old { log = self.new.log; journal = self.new.journal } }
+        ensures later { J.faults self.old.journal ≤ J.faults self.new.journal }
+        ensures keeps { J.keeps_synced self.new.journal ≡ J.keeps_synced self.old.journal }
         ensures spelling { IfOk result HasSpelling }
     {
         match item {
@@ -79,7 +106,7 @@ impl PlainLog {
                 shard: _,
                 replica: _,
                 bytes,
-            } => self.append(lane, bytes),
+            } => self.append(lane, &bytes),
             Item::Read {
                 lane: _,
                 shard: _,
@@ -91,64 +118,83 @@ impl PlainLog {
     }
 
     // Appends to the one segment, whatever its shard and replica are called.
-    fn append(&mut self, lane: u8, bytes: Bytes) -> Result<Reply, Memory>
+    fn append(&mut self, lane: u8, bytes: &Bytes) -> Result<Reply, Memory>
         requires lane { lane < 64 }
-        requires short { length bytes ≤ 65535 }
+        requires short { length bytes.now ≤ 65535 }
+        requires each { IsBytes bytes.now }
         requires room { HasRoom self.old.log 65535 }
-        ensures reply { IfOk result (λ reply. (shard : Shard) (replica : Replica) → IsItem self.old.config (Append lane shard replica bytes)
-            → reply ≡ reply_to self.old.config self.old.run self.old.log (Append lane shard replica bytes)) }
-        ensures after { OnOk result ((shard : Shard) (replica : Replica) → IsItem self.old.config (Append lane shard replica bytes)
-            → self.new ≡ record self.old { log = after self.old.config self.old.run self.old.log (Append lane shard replica bytes) }) }
-        ensures err { OnErr result (self.new ≡ self.old) }
+        ensures answers { IfOk result (λ reply. (shard : Shard) (replica : Replica) → IsItem self.old.config (Append lane shard replica bytes.now)
+            → Answers self.old.config self.old.run
+            (standing self.old.log (J.state self.old.journal) (J.faults self.old.journal))
+            (standing self.new.log (J.state self.new.journal) (J.faults self.new.journal)) (Append lane shard replica bytes.now) reply) }
+        ensures err { OnErr result (IsAsBefore
+            (standing self.old.log (J.state self.old.journal) (J.faults self.old.journal))
+            (standing self.new.log (J.state self.new.journal) (J.faults self.new.journal))) }
+        ensures fixed { self.new ≡ record self.old { log = self.new.log; journal = self.new.journal } }
+        ensures later { J.faults self.old.journal ≤ J.faults self.new.journal }
+        ensures keeps { J.keeps_synced self.new.journal ≡ J.keeps_synced self.old.journal }
         ensures spelling { IfOk result HasSpelling }
     {
+        let is_down = self.journal.is_halted();
+        if is_down {
+            draw(&mut self.draws, lane);
+            return Ok(Reply::Down);
+        }
         if !self.added {
-            draw(self.run, &mut self.draws, lane);
+            draw(&mut self.draws, lane);
             return Ok(Reply::NotAdded);
         }
-        self.values.reserve(1)?;
-        self.entries.reserve(1)?;
-        let position = Position(self.entries.len() as u64);
-        let number = draw(self.run, &mut self.draws, lane);
-        let client = Client(u16::from(lane));
-        let _ = self.entries.push(Entry {
-            client,
+        let number = next_number(self.run, &self.draws, lane);
+        match store(
+            &mut self.journal,
+            &mut self.values,
+            &mut self.payload,
+            Client(u16::from(lane)),
             number,
-            bytes,
-        });
-        let _ = self.values.push(cut(self.entries.len() as u32));
-        Ok(Reply::At { position })
+            bytes.get(),
+        ) {
+            Ok(position) => {
+                draw(&mut self.draws, lane);
+                return Ok(Reply::At { position });
+            }
+            Err(Unstored::Halted) => {
+                draw(&mut self.draws, lane);
+                return Ok(Reply::Halted);
+            }
+            Err(Unstored::Memory) => return Err(Memory),
+        }
     }
 
     fn read(&self, position: Position) -> Result<Reply, Memory>
-        ensures reply { IfOk result (λ reply. reply ≡ read_in self.now.config.replicas self.now.log position) }
+        ensures answers { IfOk result (λ reply. (lane : ℕ) (shard : Shard) (replica : Replica)
+            → Answers self.now.config self.now.run
+            (standing self.now.log (J.state self.now.journal) (J.faults self.now.journal))
+            (standing self.now.log (J.state self.now.journal) (J.faults self.now.journal)) (Read lane shard replica position) reply) }
         ensures spelling { IfOk result HasSpelling }
     {
-        match self.entries.get(position.0 as usize) {
-            None => {
-                let end = Position(self.entries.len() as u64);
-                Ok(Reply::PendingRead { end })
-            }
-            Some(entry) => {
-                let bytes = Vec::from_slice(self.alloc, entry.bytes.get())?;
-                Ok(Reply::Found {
-                    position,
-                    entry: Entry {
-                        client: entry.client,
-                        number: entry.number,
-                        bytes: Bytes::of(bytes),
-                    },
-                })
-            }
+        if self.journal.is_halted() {
+            return Ok(Reply::Down);
+        }
+        let end = self.journal.len();
+        if position.0 >= u64::from(end) {
+            let end = Position(u64::from(end));
+            return Ok(Reply::PendingRead { end });
+        }
+        match read_entry(self.alloc, self.journal.get(position.0 as u32)) {
+            Ok((entry, _)) => return Ok(Reply::Found { position, entry }),
+            Err(refusal) => return Err(only_memory(refusal)),
         }
     }
 
     fn add(&mut self, shard: Shard) -> Result<Reply, Memory>
         requires shard { shard.0 < self.old.config.shards }
         requires room { HasRoom self.old.log 65535 }
-        ensures reply { IfOk result (λ reply. reply ≡ Settled (record { 0 = length self.old.log.values })) }
-        ensures after { OnOk result (self.new ≡ record self.old { log = record self.old.log { values = self.old.log.values ++ AddValue shard ∷ [] } }) }
+        ensures answers { IfOk result (λ reply. (lane : ℕ)
+            → Answers self.old.config self.old.run
+            (standing self.old.log (J.state self.old.journal) (J.faults self.old.journal))
+            (standing self.new.log (J.state self.new.journal) (J.faults self.new.journal)) (Add lane shard) reply) }
         ensures err { OnErr result (self.new ≡ self.old) }
+        ensures fixed { self.new ≡ record self.old { log = self.new.log } }
         ensures spelling { IfOk result HasSpelling }
     {
         let slot = Slot(self.values.len() as u32);
@@ -158,26 +204,32 @@ impl PlainLog {
     }
 }
 
-/// The next number of a lane, which is drawn.
-fn draw(run: u32, draws: &mut [u32], lane: u8) -> Number
-    requires lane { lane < length draws.old }
+/// Reading a spelled entry is refused for no other reason.
+fn only_memory(refusal: Refusal) -> Memory
+    requires { refusal ≡ Refusal.Memory }
+{
+    let _ = refusal;
+    Memory
+}
+
+/// The next number of a lane.
+fn next_number(run: u32, draws: &[u32], lane: u8) -> Number
+    requires lane { lane < length draws.now }
     requires run { run ≤ 1000000 }
-    requires room { slice_index draws.old lane ≤ 65535 }
-    ensures number { result ≡ record { 0 = number_of_draw run (slice_index draws.old lane) } }
-    ensures drawn { draws.new ≡ slice_set draws.old lane (slice_index draws.old lane + 1) }
+    requires room { slice_index draws.now lane ≤ 65535 }
+    ensures { result ≡ record { 0 = number_of_draw run (slice_index draws.now lane) } }
 {
     let drawn = draws[usize::from(lane)];
-    draws[usize::from(lane)] = drawn + 1;
     Number(u64::from(run) * 4_294_967_296 + u64::from(drawn))
 }
 
-/// The cut of one segment of this length.
-fn cut(entries: u32) -> Value
-    ensures { result ≡ Cut (record { count = 1; length = entries ∷ replicate 31 0 }) }
+/// The lane has drawn one more number.
+fn draw(draws: &mut [u32], lane: u8)
+    requires lane { lane < length draws.old }
+    requires room { slice_index draws.old lane ≤ 65535 }
+    ensures { draws.new ≡ slice_set draws.old lane (slice_index draws.old lane + 1) }
 {
-    let mut length = [0; 32];
-    length[0] = entries;
-    Value::Cut(Lengths { count: 1, length })
+    draws[usize::from(lane)] += 1;
 }
 
 #[cfg(test)]

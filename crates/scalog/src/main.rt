@@ -1,7 +1,7 @@
-//! The program: its words, standard input and standard output, handed to the top call.
+//! The program: its words, standard input, standard output and its disks, handed to the top call.
 #![tactic(auto)]
 
-use outside_real::{Reading, Writing};
+use outside_real::{AnyRack, Reading, Writing};
 use scalog_run::{scalog, status};
 use std::alloc::Global;
 use std::process::ExitCode;
@@ -15,7 +15,8 @@ fn main(rt: HostRuntime) -> ExitCode {
     };
     let mut source = Reading::new(rt.reader());
     let mut sink = Writing::new(io::writer(&rt));
-    ExitCode::from(scalog(alloc, &words, &mut source, &mut sink))
+    let mut rack = AnyRack::new(alloc);
+    ExitCode::from(scalog(alloc, &words, &mut source, &mut sink, &mut rack))
 }
 
 /// The words after the program's name, or the status to end with where the system gives none.

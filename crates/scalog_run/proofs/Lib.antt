@@ -1,3 +1,5 @@
+pub mod Answered
 pub mod Completion
-pub mod Reading
+pub mod OneReading
+pub mod OverDisk
 pub mod SoFar

@@ -1,4 +1,5 @@
 pub mod Input
+pub mod Kept
 pub mod Run
 pub mod Steps
 pub mod Words

@@ -1,5 +1,5 @@
--- What a run over a source and a sink does, by its status.
-use Rattle.std.specs.Prelude.{◌≡◌, ◌≢◌, ℕ, ◌⊎◌, List, [], ◌∷◌, ◌++◌, take, Option, Some, None}
+-- What a run over a source, a sink and a disk does, by its status.
+use Rattle.std.specs.Prelude.{◌≡◌, ◌≢◌, ℕ, ◌⊎◌, List, [], ◌∷◌, ◌++◌, take, Option, Some, None, Bool}
 use Rattle.std.specs.Io.KnownBytes.{Appends, Consumes, IsAtEnd}
 use Rattle.std.specs.List.{flat_map}
 use Rattle.log_base.specs.ClusterShape.{Shape}
@@ -11,8 +11,12 @@ use Rattle.command_frame.specs.declared.answers.ItemFault.TheVariants.{Bad, Read
 use Rattle.command_frame.specs.declared.replies.Reply.{Reply}
 use Rattle.command_frame.specs.Items.{item_spelling}
 use Rattle.command_frame.specs.Replies.{reply_spelling}
+use Rattle.scalog_run.specs.declared.disk.Unanswered.{Unanswered}
+use Rattle.scalog_run.specs.declared.disk.Unanswered.TheVariants.{Unopened, Memory as OutOfMemory}
 use Rattle.plain_log.specs.Log.{log_of}
+use Rattle.plain_log.specs.Halting.{log_with_halt}
 use Rattle.scalog_run.specs.Input.{Ending, Whole, BadPlace, TooMany, ReadsAs}
+use Rattle.scalog_run.specs.Kept.{Lying, IsLater, IsServed, IsUnopened, IsCutShort, IsFresh}
 
 abbrev pub lane_of : Item → ℕ
 lane_of (Append lane shard replica bytes) = lane
@@ -28,6 +32,10 @@ reply_frames (item ∷ items) (reply ∷ replies) = reply_spelling (lane_of item
 -- what a run writes: the frames of the replies of the log of one thread
 abbrev pub output : Shape → ℕ → List Item → List ℕ
 output shape run items = reply_frames items (log_of shape run items)
+
+-- and where the put of the item of this index failed, or of none
+abbrev pub output_with_halt : Shape → ℕ → List Item → Option ℕ → List ℕ
+output_with_halt shape run items halt = reply_frames items (log_with_halt shape run items halt)
 
 -- the status that an ending calls for, and the bytes that are written with it
 abbrev pub status_of : Ending → ℕ
@@ -47,16 +55,31 @@ status_of_fault (ReadFault at) = 4
 status_of_fault (Many cause) = 7
 status_of_fault Memory = 9
 
--- what a source has left and a sink has taken, and their counts of faults
-pub record World : Type 0 where
+-- the status where the items were not answered
+abbrev pub status_of_unanswered : Unanswered → ℕ
+status_of_unanswered Unopened = 6
+status_of_unanswered OutOfMemory = 9
+
+-- what a source has left and a sink has taken, their counts of faults, and what lies in the rack as disk 0
+pub record World (D : Type 0) : Type 0 where
   pub left : Option (List ℕ)
   pub taken : Option (List ℕ)
   pub read_faults : ℕ
   pub write_faults : ℕ
+  pub lain : Lying D
 
-abbrev pub world : Option (List ℕ) → Option (List ℕ) → ℕ → ℕ → World
-world left taken read_faults write_faults =
-    record { left = left; taken = taken; read_faults = read_faults; write_faults = write_faults }
+abbrev pub world : {D : Type 0} → Option (List ℕ) → Option (List ℕ) → ℕ → ℕ → Lying D → World D
+world left taken read_faults write_faults lain =
+    record { left = left; taken = taken; read_faults = read_faults; write_faults = write_faults; lain = lain }
+
+-- what the disks of a rack tell: the bytes that a read gives, the images, and whether they keep synced bytes
+pub record Disks (D : Type 0) : Type 1 where
+  pub reads : D → Option (List ℕ)
+  pub may_leave : D → List ℕ → Type 0
+  pub keeps_synced : D → Bool
+
+abbrev pub disks : {D : Type 0} → (D → Option (List ℕ)) → (D → List ℕ → Type 0) → (D → Bool) → Disks D
+disks reads may_leave keeps_synced = record { reads = reads; may_leave = may_leave; keeps_synced = keeps_synced }
 
 -- the source tells its bytes
 abbrev pub IsTold : Option (List ℕ) → Type 0
@@ -64,35 +87,67 @@ IsTold None = ⊥
 IsTold (Some bytes) = Unit {0}
 
 -- The run answered each item of the whole input and sent the replies' frames.
-pub record Serves (shape : Shape) (run : ℕ) (old new : World) : Type 0 where
+pub record Serves {D : Type 0} (by : Disks D) (shape : Shape) (run : ℕ) (old new : World D) : Type 0 where
   pub items : List Item
+  pub halt : Option ℕ
   pub reads : ReadsAs shape old.left items Whole
   pub used : Consumes old.left new.left (flat_map item_spelling items)
   pub ended : IsAtEnd new.left
-  pub sent : Appends old.taken new.taken (output shape run items)
+  pub served : IsServed by.may_leave by.keeps_synced shape run items halt old.lain new.lain
+  pub sent : Appends old.taken new.taken (output_with_halt shape run items halt)
 
 -- The sink failed, with a part of what is to be sent taken.
-pub record Breaks (shape : Shape) (run : ℕ) (old new : World) : Type 0 where
+pub record Breaks {D : Type 0} (by : Disks D) (shape : Shape) (run : ℕ) (old new : World D) : Type 0 where
+  pub items : List Item
+  pub halt : Option ℕ
+  pub reads : ReadsAs shape old.left items Whole
+  pub served : IsServed by.may_leave by.keeps_synced shape run items halt old.lain new.lain
+  pub part : ℕ
+  pub sent : Appends old.taken new.taken (take part (output_with_halt shape run items halt))
+  pub cause : Rose old.write_faults new.write_faults
+
+-- The whole input was read, and then the disk could not be opened.
+pub record Stops {D : Type 0} (by : Disks D) (shape : Shape) (old new : World D) : Type 0 where
   pub items : List Item
   pub reads : ReadsAs shape old.left items Whole
-  pub part : ℕ
-  pub sent : Appends old.taken new.taken (take part (output shape run items))
-  pub cause : Rose old.write_faults new.write_faults
+  pub unopened : IsUnopened by.reads by.may_leave by.keeps_synced old.lain new.lain
+
+-- Memory ran out while items were read, or behind the reading of the whole input.
+abbrev pub RunsOut : {D : Type 0} → Disks D → Shape → ℕ → World D → World D → Type 0
+RunsOut by shape run old new =
+    (new.lain ≡ old.lain)
+    ⊎ ((items : List Item) × ReadsAs shape old.left items Whole × IsCutShort by.may_leave by.keeps_synced shape run items old.lain new.lain)
 
 -- there is no other status
 abbrev pub IsStatus : ℕ → Type 0
-IsStatus status = (status ≡ 0) ⊎ (status ≡ 3) ⊎ (status ≡ 4) ⊎ (status ≡ 5) ⊎ (status ≡ 7) ⊎ (status ≡ 9)
+IsStatus status = (status ≡ 0) ⊎ (status ≡ 3) ⊎ (status ≡ 4) ⊎ (status ≡ 5) ⊎ (status ≡ 6) ⊎ (status ≡ 7) ⊎ (status ≡ 9)
+
+-- the statuses that come before the disk is lent
+abbrev pub IsOfReading : ℕ → Type 0
+IsOfReading status = (status ≡ 3) ⊎ (status ≡ 4) ⊎ (status ≡ 7)
+
+-- What the disk has to be where an input has this ending: with nothing on it, and with no rise of its count and the
+-- rack's, where the whole input is to be answered.
+abbrev pub Opens : {D : Type 0} → Disks D → World D → World D → Ending → Type 0
+Opens by old new Whole =
+    IsFresh by.reads old.lain.disk × (¬ Rose old.lain.rack_faults new.lain.rack_faults) × (¬ Rose old.lain.disk_faults new.lain.disk_faults)
+Opens by old new BadPlace = Unit {0}
+Opens by old new (TooMany cause) = Unit {0}
 
 -- A run with its status. Only status 9, want of memory, may come at any time: a told input whose reading has an
 -- ending gets the status that it calls for and what is written with it, where no count of faults rose.
-pub record Ran (shape : Shape) (run : ℕ) (old new : World) (status : ℕ) : Type 0 where
-  pub done : status ≡ 0 → Serves shape run old new
+pub record Ran {D : Type 0} (by : Disks D) (shape : Shape) (run : ℕ) (old new : World D) (status : ℕ) : Type 0 where
+  pub done : status ≡ 0 → Serves by shape run old new
   pub bad : status ≡ 3 → (items : List Item) × ReadsAs shape old.left items BadPlace
   pub read : status ≡ 4 → Rose old.read_faults new.read_faults
-  pub write : status ≡ 5 → Breaks shape run old new
+  pub write : status ≡ 5 → Breaks by shape run old new
+  pub unopened : status ≡ 6 → Stops by shape old new
   pub many : status ≡ 7 → (items : List Item) × (cause : ℕ) × ReadsAs shape old.left items (TooMany cause)
+  pub memory : status ≡ 9 → RunsOut by shape run old new
   pub only : IsStatus status
   pub silent : status ≢ 0 → status ≢ 5 → new.taken ≡ old.taken
+  pub unlent : IsOfReading status → new.lain ≡ old.lain
+  pub later : IsLater by.keeps_synced old.lain new.lain
   pub complete : (items : List Item) (ending : Ending) → IsTold old.left → ReadsAs shape old.left items ending
-      → ¬ Rose old.read_faults new.read_faults → ¬ Rose old.write_faults new.write_faults
+      → ¬ Rose old.read_faults new.read_faults → ¬ Rose old.write_faults new.write_faults → Opens by old new ending
       → (status ≡ 9) ⊎ ((status ≡ status_of ending) × Appends old.taken new.taken (written_at shape run items ending))

@@ -1,9 +1,11 @@
 //! The top call: words to options, items in, replies out, and the status that the program ends with.
 #![tactic(auto)]
 
-mod gathering;
+mod disk;
 mod options;
+mod reading;
 mod run;
+mod serving;
 pub mod status;
 mod words;
 

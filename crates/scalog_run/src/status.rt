@@ -15,6 +15,9 @@ pub const READ_FAULT: u8 = 4;
 /// The sink failed.
 pub const WRITE_FAULT: u8 = 5;
 
+/// The disk could not be opened: the rack or the disk failed, its bytes are damaged, or it holds something.
+pub const DISK_FAULT: u8 = 6;
+
 /// The input has too many items, or too many bytes in their records.
 pub const TOO_MANY: u8 = 7;
 

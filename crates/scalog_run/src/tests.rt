@@ -3,6 +3,7 @@
 ghost use Rattle.std.specs.Prelude.{◌<◌};
 
 use crate::{scalog, status};
+use disk_base::{Disk, MemoryDisk, MemoryRack, Plan};
 use log_base::{MemorySink, MemorySource};
 use std::test::Fail;
 
@@ -20,11 +21,12 @@ const PENDING: &[u8] = b"\0\0\0\x0b\x40\0\x05\0\0\0\0\0\0\0\0";
 const SETTLED_AT_FOUND: &[u8] =
     b"\0\0\0\x07\x40\0\x14\0\0\0\0\0\0\0\x0b\x40\0\x02\0\0\0\0\0\0\0\0\0\0\0\x1a\x40\0\x03\0\0\0\0\0\0\0\0\0\0\0\0\0\x01\0\0\0\0\0\0\0\x01a";
 
-// The status of a run, and what its sink has taken.
+// The status of a run, what its sink has taken, and what is on the disk that lies in the rack then.
 #[derive(Drop)]
 struct Outcome {
     status: u8,
     sent: Vec<u8>,
+    kept: Vec<u8>,
 }
 
 fn run_on(
@@ -33,6 +35,18 @@ fn run_on(
     input: &[u8],
     failing_read: u32,
     failing_write: u32,
+) -> Result<Outcome, Fail> {
+    let disk = MemoryDisk::of(rt.alloc(), Vec::new(rt.alloc()));
+    run_over(rt, words, input, failing_read, failing_write, disk)
+}
+
+fn run_over(
+    rt: &HostRuntime,
+    words: &[&str],
+    input: &[u8],
+    failing_read: u32,
+    failing_write: u32,
+    disk: MemoryDisk,
 ) -> Result<Outcome, Fail> {
     let alloc = rt.alloc();
     let mut texts = Vec::new(alloc);
@@ -45,9 +59,12 @@ fn run_on(
     let mut sink = MemorySink::new(alloc, 1_048_576, 4, fails)
         .ok()
         .ok_or("memory")?;
-    let status = scalog(alloc, &texts, &mut source, &mut sink);
+    let mut rack = MemoryRack::new(alloc);
+    rack.place(0, disk).ok().ok_or("place")?;
+    let status = scalog(alloc, &texts, &mut source, &mut sink, &mut rack);
     let sent = Vec::from_slice(alloc, sink.bytes())?;
-    Ok(Outcome { status, sent })
+    let kept = Vec::from_slice(alloc, rack.disk(0).ok_or("disk")?.bytes())?;
+    Ok(Outcome { status, sent, kept })
 }
 
 // A call that no run makes.
@@ -124,6 +141,73 @@ fn words_and_faults_have_their_status(rt: HostRuntime) -> Result<(), Fail> {
     let write = run_on(&rt, &WORDS, ADD_APPEND_READ, NEVER, 1)?;
     assert_eq!(rt; write.status, status::WRITE_FAULT);
     assert_eq!(rt; write.sent.as_slice(), b"\0\0\0\x07".as_slice());
+    Ok(())
+}
+
+const ADD_APPEND: &[u8] = b"\0\0\0\x04\x05\0\0\0\0\0\0\x06\x01\0\0\0\0a";
+
+const ADD_APPEND_APPEND: &[u8] =
+    b"\0\0\0\x04\x05\0\0\0\0\0\0\x06\x01\0\0\0\0a\0\0\0\x06\x01\0\0\0\0b";
+
+const SETTLED_HALTED: &[u8] = b"\0\0\0\x07\x40\0\x14\0\0\0\0\0\0\0\x03\x40\0\x0c";
+
+const SETTLED_HALTED_DOWN: &[u8] =
+    b"\0\0\0\x07\x40\0\x14\0\0\0\0\0\0\0\x03\x40\0\x0c\0\0\0\x03\x40\0\x0d";
+
+const SETTLED_AT: &[u8] = b"\0\0\0\x07\x40\0\x14\0\0\0\0\0\0\0\x0b\x40\0\x02\0\0\0\0\0\0\0\0";
+
+// The entry of the append, behind its open gate, and a closed gate.
+const ENTRY: &[u8] = b"\x01\0\0\0\x10\x01\0\0\0\0\0\x01\0\0\0\0\0\0\0\x01a\0";
+
+// Loading the empty disk is the first write, and each put has two.
+#[test]
+fn entries_are_put_before_their_replies(rt: HostRuntime) -> Result<(), Fail> {
+    let table: [(&[u8], u32, u32, &[u8], &[u8]); 3] = [
+        (ADD_APPEND_APPEND, 1, 3, SETTLED_HALTED_DOWN, b"\0\0\0\0"),
+        (ADD_APPEND, 2, 1, SETTLED_HALTED, ENTRY),
+        (ADD_APPEND, 3, 0, SETTLED_AT, ENTRY),
+    ];
+    for (input, after, keep, sent, kept) in table {
+        let mut disk = MemoryDisk::of(rt.alloc(), Vec::new(rt.alloc()));
+        disk.plan(Plan {
+            after,
+            keep,
+            lose: false,
+        });
+        let outcome = run_over(&rt, &WORDS, input, NEVER, NEVER, disk)?;
+        assert_eq!(rt; outcome.status, status::DONE);
+        assert_eq!(rt; outcome.sent.as_slice(), sent);
+        assert_eq!(rt; outcome.kept.as_slice(), kept);
+    }
+    Ok(())
+}
+
+// Disks that can't be opened, and one that holds nothing.
+#[test]
+fn disks_in_use_are_refused(rt: HostRuntime) -> Result<(), Fail> {
+    let table: [(&[u8], u8, &[u8]); 3] = [
+        (b"\x01\0\0\0\x05A", status::DISK_FAULT, b"\x01\0\0\0\x05A"),
+        (ENTRY, status::DISK_FAULT, ENTRY),
+        (b"\x02\0\0", status::DONE, b"\0\0\0"),
+    ];
+    for (bytes, want, kept) in table {
+        let disk = MemoryDisk::of(rt.alloc(), bytes.to_vec(rt.alloc())?);
+        let outcome = run_over(&rt, &WORDS, ADD, NEVER, NEVER, disk)?;
+        assert_eq!(rt; outcome.status, want);
+        assert_eq!(rt; outcome.kept.as_slice(), kept);
+        assert_eq!(rt; outcome.sent.is_empty(), want != status::DONE);
+    }
+    let mut stopped = MemoryDisk::of(rt.alloc(), Vec::new(rt.alloc()));
+    stopped.plan(Plan {
+        after: 0,
+        keep: 0,
+        lose: false,
+    });
+    let outcome = run_over(&rt, &WORDS, ADD, NEVER, NEVER, stopped)?;
+    assert_eq!(rt; outcome.status, status::DISK_FAULT);
+    let damaged = MemoryDisk::of(rt.alloc(), b"\x01\0\0\0\x05A".to_vec(rt.alloc())?);
+    let bad = run_over(&rt, &WORDS, b"\0\0\0\0", NEVER, NEVER, damaged)?;
+    assert_eq!(rt; bad.status, status::BAD_INPUT);
     Ok(())
 }
 

@@ -1,9 +1,13 @@
-ghost use Rattle.std.specs.Prelude.{IfOk};
+ghost use Rattle.std.specs.Prelude.{◌≤◌, length, IfOk};
 ghost use Rattle.command_frame.specs.Items.{IsItem};
 ghost use Rattle.plain_log.specs.OneSegment.{smallest};
 
 use super::*;
+use crate::halt_goes_on;
+use disk_base::{MemoryDisk, Plan};
 use log_base::Replica;
+use segment_journal::SegmentJournal;
+use std::process::Abort;
 use std::test::Fail;
 
 /// An item of the one segment. An append has a lane and a record of one byte.
@@ -36,11 +40,39 @@ fn item(alloc: Global, step: Step) -> Result<Item, Memory>
     }
 }
 
+// The replies of a log on an empty disk in memory, which may have a plan.
+fn answers_are(
+    rt: &impl Abort,
+    alloc: Global,
+    plan: Option<Plan>,
+    steps: &[(Step, &str)],
+) -> Result<(), Fail>
+    requires { length steps.now ≤ 100 }
+{
+    let config = Config::new(1, 1, 1, 1)?;
+    let disk = MemoryDisk::of(alloc, Vec::new(alloc));
+    let mut journal = SegmentJournal::load(alloc, disk).ok().ok_or("load")?;
+    if let Some(plan) = plan {
+        journal.plan(plan);
+    }
+    if journal.len() > 0 {
+        return Err(Fail::from("payloads"));
+    }
+    let mut log = PlainLog::new(alloc, config, 1, journal);
+    for (at, case) in steps.iter().enumerate() {
+        let (step, expected) = *case;
+        let reply = log.answer(item(alloc, step)?)?;
+        assert_eq!(rt;
+            format!(in alloc; "{reply:?}")?.as_str(),
+            expected,
+            "at step {at}"
+        );
+    }
+    Ok(())
+}
+
 #[test]
 fn answers_items(rt: HostRuntime) -> Result<(), Fail> {
-    let alloc = rt.alloc();
-    let config = Config::new(1, 1, 1, 1)?;
-    let mut log = PlainLog::new(alloc, config, 1);
     let steps = [
         (Step::Read(0), "PendingRead { end: Position(0) }"),
         (Step::Append(0, 97), "NotAdded"),
@@ -64,14 +96,25 @@ fn answers_items(rt: HostRuntime) -> Result<(), Fail> {
         (Step::Read(3), "PendingRead { end: Position(3) }"),
         (Step::Read(u64::MAX), "PendingRead { end: Position(3) }"),
     ];
-    for (at, case) in steps.iter().enumerate() {
-        let (step, expected) = *case;
-        let reply = log.answer(item(alloc, step)?)?;
-        assert_eq!(rt;
-            format!(in alloc; "{reply:?}")?.as_str(),
-            expected,
-            "at step {at}"
-        );
-    }
-    Ok(())
+    answers_are(&rt, rt.alloc(), None, &steps)
+}
+
+// The second put fails at its second write.
+#[test]
+fn a_put_that_fails_takes_the_log_down(rt: HostRuntime) -> Result<(), Fail> {
+    let plan = Plan {
+        after: 3,
+        keep: 0,
+        lose: false,
+    };
+    let steps = [
+        (Step::Add, "Settled { slot: Slot(0) }"),
+        (Step::Append(0, 97), "At { position: Position(0) }"),
+        (Step::Append(0, 98), "Halted"),
+        (Step::Read(0), "Down"),
+        (Step::Append(0, 99), "Down"),
+        (Step::Add, "Settled { slot: Slot(2) }"),
+    ];
+    halt_goes_on();
+    answers_are(&rt, rt.alloc(), Some(plan), &steps)
 }

@@ -1,5 +1,5 @@
 use Rattle.command_frame.proofs.FrameLaws.{one_item}
-use Rattle.scalog_run.proofs.Reading.{reads_one_way}
+use Rattle.scalog_run.proofs.OneReading.{reads_one_way}
 use Rattle.scalog_run.proofs.run.one_reading.Goals as goal
 
 pub returns : goal.returns

@@ -1,44 +1,76 @@
-use Rattle.std.proofs.Common.{◌≡◌, ℕ, ◌+◌, List, [], ◌∷◌, ◌++◌, length, Bool, true, sym, subst, ap, ◌∙◌, arith, rules}
+use Rattle.std.proofs.Common.{◌≡◌, ◌≤◌, ◌∷◌, [], ◌++◌, ◌+◌, ◌<◌, List, ℕ, length, true, false, sym, ap, ◌∙◌, subst, arith}
+use Rattle.std.specs.Prelude.{slice_index}
 use Rattle.log_base.specs.Shape.{shape}
+use Rattle.log_base.specs.declared.numbers.Number.{Number}
 use Rattle.record_frame.specs.declared.entries.Entry.{Entry}
 use Rattle.record_frame.specs.declared.values.Value.{Value}
+use Rattle.record_frame.specs.Entries.{IsEntry, entry_of, entry_spelling}
+use Rattle.segment_journal.specs.Journalled.{Journalled, with_payload}
 use Rattle.command_frame.specs.declared.items.Item.TheVariants.{Append}
 use Rattle.command_frame.specs.declared.replies.Reply.{At}
-use Rattle.plain_log.specs.Log.{reply_to}
-use Rattle.plain_log.specs.OneSegment.{Plain, InOrder, IsOneSegment}
-use Rattle.plain_log.proofs.OneSegment.{one_more_entry, told, cut_at}
+use Rattle.plain_log.specs.Log.{next_entry}
+use Rattle.plain_log.specs.Answering.{Answers, standing}
+use Rattle.plain_log.specs.OneSegment.{Plain, IsOneSegment, KeepsEntries, entries_in}
+use Rattle.plain_log.proofs.OneSegment.{cut_at, state_with}
 use Rattle.plain_log.proofs.Sizes.{at_spelling}
+use Rattle.plain_log.proofs.Stored.{next_is_entry, keeps_stored, stored_answers}
 use Rattle.plain_log.proofs.plain.PlainLog.append.Goals as goal
 
--- both pushes have room
-pub invariant_of-self-2 : goal.invariant_of-self-2
-invariant_of-self-2 c =
-    let entries = c.self.inside.entries.items in
-    let values = c.self.inside.values.items in
-    let entry : Entry = record { client = record { 0 = c.from.result }; number = c.draw-number.result; bytes = c.args.bytes } in
-    let pushed : c.push.new.self.items ≡ entries ++ entry ∷ [] = search rules in
-    let cut : c.push-2.new.self.items ≡ values ++ cut_at (length entries + 1) ∷ [] = search rules in
-    let is_there : c.self.inside.added ≡ true = grind arith in
-    let more = one_more_entry (shape c.self.inside.config) c.self.inside.run values entries c.self.inside.added entry is_there c.requires.short c.self.invariant in
-    subst (λ (l : List Value). IsOneSegment (shape c.self.inside.config) c.self.inside.run l c.push.new.self.items c.self.inside.added) (sym cut)
-    (subst (λ (l : List Entry). IsOneSegment (shape c.self.inside.config) c.self.inside.run (values ++ cut_at (length entries + 1) ∷ []) l c.self.inside.added) (sym pushed) more)
+-- the entry that is stored is the next one of the lane
+is_next : (run lane : ℕ) (values : List Value) (entries : List Entry) (draws bytes : List ℕ) (from : ℕ) (number : Number)
+    → from ≡ lane → number ≡ (next_entry run (state_with values entries draws) lane bytes).number
+    → entry_of (record { 0 = from }) number bytes ≡ next_entry run (state_with values entries draws) lane bytes
+is_next run lane values entries draws bytes from number a b =
+    ap (λ (n : ℕ). entry_of (record { 0 = n }) number bytes) a ∙ ap (λ (n : Number). entry_of (record { 0 = lane }) n bytes) b
 
--- the one shard is shard 0, and its one replica is replica 0
-pub returns-clause-reply : goal.returns-clause-reply
-returns-clause-reply c = λ shard replica item.
-    let entries = c.self.inside.entries.items in
-    let values = c.self.inside.values.items in
-    let whole = c.self.invariant in
-    let shards = ap (λ (v : Plain). v.config.shards) c.self.view_is in
-    let replicas = ap (λ (v : Plain). v.config.replicas) c.self.view_is in
-    let zeroth : shard.0 ≡ 0 = omega (arith, shards, whole.one_shard, item.1) in
-    let first : replica.0 ≡ 0 = omega (arith, replicas, whole.one_replica, item.2) in
-    let is_there : c.self.inside.added ≡ true = grind arith in
-    let order : InOrder values true (length entries) = subst (λ (b : Bool). InOrder values b (length entries)) is_there whole.order in
-    let stored : c.len.result ≡ length entries = search rules in
-    ap (λ (n : ℕ). At (record { 0 = n })) stored
-    ∙ subst (λ (v : Plain). At (record { 0 = length entries }) ≡ reply_to v.config v.run v.log (Append c.args.lane shard replica c.args.bytes)) c.self.view_is
-    (told (shape c.self.inside.config) c.self.inside.run c.args.lane values entries c.self.inside.draws c.args.bytes shard replica whole.one_replica zeroth first order)
+pub invariant_of-self-in-Ok : goal.invariant_of-self-in-Ok
+invariant_of-self-in-Ok g c =
+    let s = c.self.inside in
+    let journal = g.J.Journal.state s.journal in
+    let entries = entries_in journal.payloads in
+    let entry = entry_of (record { 0 = c.from.result }) c.next_number-number.result c.args.bytes.now in
+    let next = is_next s.run c.args.lane s.values.items entries s.draws c.args.bytes.now c.from.result c.next_number-number.result c.from.ensures c.next_number-number.ensures in
+    let room : slice_index s.draws c.args.lane ≤ 65535 = subst (λ (v : Plain g.row.J.Denot). slice_index v.log.draws c.args.lane ≤ 65535) (sym c.self.view_is) (c.requires.room.draws c.args.lane) in
+    let is : IsEntry entry = subst IsEntry (sym next) (next_is_entry s.run c.args.lane (state_with s.values.items entries s.draws) c.args.bytes.now c.self.invariant.1.run_fits c.requires.lane room c.requires.short c.requires.each) in
+    let there : s.added ≡ true = grind arith in
+    let more = keeps_stored (shape s.config) s.run s.values.items s.added journal entry is there c.self.invariant in
+    subst (λ (j : Journalled). KeepsEntries j × IsOneSegment (shape s.config) s.run c.store.new.values.items (entries_in j.payloads) s.added) (sym (c.in-Ok.ensures.stored ∙ ap (λ (b : List ℕ). with_payload journal (entry_spelling (entry_of (record { 0 = c.from.result }) c.next_number-number.result b))) c.get.ensures))
+    (subst (λ (l : List Value). KeepsEntries (with_payload journal (entry_spelling entry)) × IsOneSegment (shape s.config) s.run l (entries_in (journal.payloads ++ entry_spelling entry ∷ [])) s.added) (sym c.in-Ok.ensures.covered) more)
 
-pub returns-clause-spelling : goal.returns-clause-spelling
-returns-clause-spelling c = at_spelling _
+pub returns-in-Ok-clause-answers : goal.returns-in-Ok-clause-answers
+returns-in-Ok-clause-answers g c shard replica item =
+    let s = c.self.inside in
+    let journal = g.J.Journal.state s.journal in
+    let config = shape s.config in
+    let entries = entries_in journal.payloads in
+    let entry = entry_of (record { 0 = c.from.result }) c.next_number-number.result c.args.bytes.now in
+    let next = is_next s.run c.args.lane s.values.items entries s.draws c.args.bytes.now c.from.result c.next_number-number.result c.from.ensures c.next_number-number.ensures in
+    let room : slice_index s.draws c.args.lane ≤ 65535 = subst (λ (v : Plain g.row.J.Denot). slice_index v.log.draws c.args.lane ≤ 65535) (sym c.self.view_is) (c.requires.room.draws c.args.lane) in
+    let is : IsEntry entry = subst IsEntry (sym next) (next_is_entry s.run c.args.lane (state_with s.values.items entries s.draws) c.args.bytes.now c.self.invariant.1.run_fits c.requires.lane room c.requires.short c.requires.each) in
+    let there : s.added ≡ true = grind arith in
+    let running : journal.halted ≡ false = grind arith in
+    let shards = subst (λ (v : Plain g.row.J.Denot). shard.0 < v.config.shards) (sym c.self.view_is) item.1 in
+    let replicas = subst (λ (v : Plain g.row.J.Denot). replica.0 < v.config.replicas) (sym c.self.view_is) item.2 in
+    let all = stored_answers config s.run c.args.lane s.values.items s.draws c.args.bytes.now s.added shard replica journal (g.J.Journal.faults s.journal) (g.J.Journal.faults c.store.new.journal)
+    entry c.in-Ok.position c.self.invariant there running shards replicas next is c.in-Ok.ensures.position in
+    let stored : g.J.Journal.state c.store.new.journal ≡ with_payload journal (entry_spelling entry) =
+    c.in-Ok.ensures.stored ∙ ap (λ (b : List ℕ). with_payload journal (entry_spelling (entry_of (record { 0 = c.from.result }) c.next_number-number.result b))) c.get.ensures in
+    let now = g.J.Journal.faults c.store.new.journal in
+    let item_is = Append c.args.lane shard replica c.args.bytes.now in
+    let reply = At c.in-Ok.position in
+    let old = standing (state_with s.values.items entries s.draws) journal (g.J.Journal.faults s.journal) in
+    let by_draws = subst (λ (draws : List ℕ). Answers config s.run old
+    (standing (state_with (s.values.items ++ cut_at (length journal.payloads + 1) ∷ []) (entries_in (journal.payloads ++ entry_spelling entry ∷ [])) draws) (with_payload journal (entry_spelling entry)) now) item_is reply)
+    (sym c.draw-in-Ok.ensures) all in
+    let by_values = subst (λ (values : List Value). Answers config s.run old
+    (standing (state_with values (entries_in (journal.payloads ++ entry_spelling entry ∷ [])) c.draw-in-Ok.new.draws) (with_payload journal (entry_spelling entry)) now) item_is reply)
+    (sym c.in-Ok.ensures.covered) by_draws in
+    let by_journal = subst (λ (j : Journalled). Answers config s.run old
+    (standing (state_with c.store.new.values.items (entries_in j.payloads) c.draw-in-Ok.new.draws) j now) item_is reply)
+    (sym stored) by_values in
+    subst (λ (v : Plain g.row.J.Denot). Answers v.config v.run (standing v.log (g.J.Journal.state v.journal) (g.J.Journal.faults v.journal))
+    (standing (state_with c.store.new.values.items (entries_in (g.J.Journal.state c.store.new.journal).payloads) c.draw-in-Ok.new.draws) (g.J.Journal.state c.store.new.journal) now) item_is reply)
+    c.self.view_is by_journal
+
+pub returns-in-Ok-clause-spelling : goal.returns-in-Ok-clause-spelling
+returns-in-Ok-clause-spelling g c = at_spelling _

@@ -1,7 +1,7 @@
 use Rattle.std.proofs.Common.{◌≡◌}
 use Rattle.plain_log.specs.OneSegment.{smallest}
 use Rattle.plain_log.specs.Room.{HasRoom}
-use Rattle.plain_log.proofs.plain.tests.answers_items.Given as goal
+use Rattle.plain_log.proofs.plain.tests.answers_are.Given as goal
 
 -- the log has the config of the items, and each of these has added at most one
 abbrev pub invariant-loop-at : goal.invariant-loop-at

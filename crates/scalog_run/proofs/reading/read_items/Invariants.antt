@@ -2,19 +2,17 @@ use Rattle.std.proofs.Common.{◌≡◌, ◌-◌, ◌≤◌, None}
 use Rattle.log_base.specs.Outside.{unread}
 use Rattle.log_base.specs.Shape.{shape}
 use Rattle.scalog_run.proofs.SoFar.{SoFar}
-use Rattle.scalog_run.proofs.gathering.gather.Given as goal
+use Rattle.scalog_run.proofs.reading.read_items.Given as goal
 
--- the items read so far are answered, and the reader has no fault
+-- the items so far are read, and the reader has no fault
 abbrev pub invariant-items : goal.invariant-items
 invariant-items g l = record {
-  so_far : SoFar (shape l.options.config) l.options.run (g.S.Source.left l.initial.source) (record {
+  so_far : SoFar (shape l.fn.config) (g.S.Source.left l.initial.source) (record {
     unread = unread l.reader.pending (g.S.Source.left l.source);
     counts = l.reader.counts;
-    log = l.log.log;
-    frames = l.frames.items;
+    items = l.items.items;
   });
-  config : l.reader.config ≡ shape l.options.config;
-  log : l.log ≡ record { config = shape l.options.config; run = l.options.run; log = l.log.log };
+  config : l.reader.config ≡ shape l.fn.config;
   fresh : l.reader.fault ≡ None;
   count : g.S.Source.faults l.initial.source ≤ g.S.Source.faults l.source;
 }

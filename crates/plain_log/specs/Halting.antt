@@ -1,0 +1,74 @@
+-- The log of one thread on a disk that may fail. An append whose put fails is told so, and from then on the replica is
+-- down: appends and reads are refused, and additions go on, since no disk of the replica keeps them.
+use Rattle.std.specs.Prelude.{◌≡◌, ℕ, ◌+◌, List, [], ◌∷◌, ◌++◌, length, take, drop, true, Option, Some, None, option_and_then, slice_get, IfSome, slice_index_or}
+use Rattle.log_base.specs.ClusterShape.{Shape}
+use Rattle.record_frame.specs.declared.entries.Entry.{Entry}
+use Rattle.record_frame.specs.declared.values.Value.TheVariants.{Add as AddValue}
+use Rattle.command_frame.specs.declared.items.Item.{Item}
+use Rattle.command_frame.specs.declared.items.Item.TheVariants.{Append, Read, Add}
+use Rattle.command_frame.specs.declared.replies.Reply.{Reply, Halted, Down, Settled}
+use Rattle.plain_log.specs.Log.{LogState, start, knows, drawn, next_entry, state_after, log_of}
+
+-- the entry of an item is put on the disk: it is an append to a shard that was added
+abbrev pub IsPut : Shape → LogState → Item → Type 0
+IsPut shape state (Append lane shard replica bytes) = knows shape.replicas state shard.0 ≡ true
+IsPut shape state (Read lane shard replica position) = ⊥
+IsPut shape state (Add lane shard) = ⊥
+
+-- the entry that an item appends
+abbrev pub appended : ℕ → LogState → Item → Option Entry
+appended run state (Append lane shard replica bytes) = Some (next_entry run state lane bytes)
+appended run state (Read lane shard replica position) = None
+appended run state (Add lane shard) = None
+
+-- the state after an item that takes the replica down or finds it down: an append draws its number and stores nothing
+abbrev pub after_down : LogState → Item → LogState
+after_down state (Append lane shard replica bytes) = drawn state lane
+after_down state (Read lane shard replica position) = state
+after_down state (Add lane shard) = record state { values = state.values ++ AddValue shard ∷ [] }
+
+-- the reply to an item where the replica is down and so many values are decided
+abbrev pub reply_down : ℕ → Item → Reply
+reply_down decided (Append lane shard replica bytes) = Down
+reply_down decided (Read lane shard replica position) = Down
+reply_down decided (Add lane shard) = Settled (record { 0 = decided })
+
+-- how many values are decided after an item where the replica is down
+abbrev pub decided_down : ℕ → Item → ℕ
+decided_down decided (Append lane shard replica bytes) = decided
+decided_down decided (Read lane shard replica position) = decided
+decided_down decided (Add lane shard) = decided + 1
+
+-- the replies to items, one after another, where the replica is down
+abbrev pub replies_down : ℕ → List Item → List Reply
+replies_down decided [] = []
+replies_down decided (item ∷ items) = reply_down decided item ∷ replies_down (decided_down decided item) items
+
+-- the state after the items before this index
+abbrev pub state_before : Shape → ℕ → List Item → ℕ → LogState
+state_before shape run items at = state_after shape run (start shape) (take at items)
+
+-- The replies where the put of the item of this index failed, or of none.
+abbrev pub log_with_halt : Shape → ℕ → List Item → Option ℕ → List Reply
+log_with_halt shape run items None = log_of shape run items
+log_with_halt shape run items (Some at) =
+    log_of shape run (take at items) ++ Halted ∷ replies_down (length (state_before shape run items at).values) (drop (at + 1) items)
+
+-- the put of the item of this index, where there is one, can fail: the item is there, and its entry is put
+abbrev pub IsHaltOf : Shape → ℕ → List Item → Option ℕ → Type 0
+IsHaltOf shape run items halt =
+    IfSome halt (λ at. (item : Item) × (slice_get items at ≡ Some item) × IsPut shape (state_before shape run items at) item)
+
+-- the entries of the first segment
+abbrev pub first_entries : LogState → List Entry
+first_entries state = slice_index_or state.segments 0 []
+
+-- the entries of the first segment that are stored where that put failed
+abbrev pub entries_with_halt : Shape → ℕ → List Item → Option ℕ → List Entry
+entries_with_halt shape run items None = first_entries (state_after shape run (start shape) items)
+entries_with_halt shape run items (Some at) = first_entries (state_before shape run items at)
+
+-- the entry whose put failed
+abbrev pub entry_in_flight : Shape → ℕ → List Item → Option ℕ → Option Entry
+entry_in_flight shape run items None = None
+entry_in_flight shape run items (Some at) = option_and_then (appended run (state_before shape run items at)) (slice_get items at)
