@@ -1,0 +1,13 @@
+pub mod Each
+pub mod Held
+pub mod Indexing
+pub mod Installing
+pub mod Keeping
+pub mod Knowing
+pub mod Lengths
+pub mod Noting
+pub mod Planning
+pub mod Putting
+pub mod Reloading
+pub mod Submitting
+pub mod Testing
