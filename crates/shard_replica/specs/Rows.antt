@@ -1,4 +1,4 @@
--- The replica, the entries and the values of the worked rows.
+-- The replica, the entries and the values of the examples.
 use Rattle.std.specs.Prelude.{ℕ, List, [], ◌∷◌, ◌++◌, replicate}
 use Rattle.record_frame.specs.declared.entries.Entry.{Entry}
 use Rattle.record_frame.specs.declared.values.Value.{Value}

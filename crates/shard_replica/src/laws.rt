@@ -1,5 +1,5 @@
-//! Worked rows of the rule of a replica: replica 1 of the two of shard 1. Each function does
-//! nothing: its contract is the rows.
+//! Examples of the rule of a replica: replica 1 of the two of shard 1. Each function does
+//! nothing: its contract is the examples.
 
 ghost use Rattle.std.specs.Prelude.{◌≡◌, ℕ, List, [], ◌∷◌, ◌++◌, Some, None};
 ghost use Rattle.log_model.specs.Storage.{Member};
