@@ -107,28 +107,28 @@ of_range there back part = record {
   needs_none = part.needs_none;
 }
 
-u8_part : IsPart u8_at (λ n. n < 256) (λ n. n ∷ [])
+pub u8_part : IsPart u8_at (λ n. n < 256) (λ n. n ∷ [])
 u8_part = record {
   takes = λ bytes at x fits within e. let t = u8_takes bytes at x fits e in (t.1, t.0);
   again = λ bytes at next n lt stands. u8_again bytes at n next lt stands;
   needs_none = u8_at-needs_none;
 }
 
-u16_part : IsPart u16_at (λ n. n < 2 ^ 16) be2
+pub u16_part : IsPart u16_at (λ n. n < 2 ^ 16) be2
 u16_part = record {
   takes = λ bytes at x fits within e. let t = u16_takes bytes at x fits e in (t.1, t.0);
   again = λ bytes at next n lt stands. u16_again bytes at n next lt stands;
   needs_none = u16_at-needs_none;
 }
 
-u32_part : IsPart u32_at (λ n. n < 2 ^ 32) be4
+pub u32_part : IsPart u32_at (λ n. n < 2 ^ 32) be4
 u32_part = record {
   takes = λ bytes at x fits within e. let t = u32_takes bytes at x fits e in (t.1, t.0);
   again = λ bytes at next n lt stands. u32_again bytes at n next lt stands;
   needs_none = u32_at-needs_none;
 }
 
-u64_part : IsPart u64_at (λ n. n < 2 ^ 64) be8
+pub u64_part : IsPart u64_at (λ n. n < 2 ^ 64) be8
 u64_part = record {
   takes = λ bytes at x fits within e. let t = u64_takes bytes at x fits e in (t.1, t.0);
   again = λ bytes at next n lt stands. u64_again bytes at n next lt stands;

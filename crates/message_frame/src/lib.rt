@@ -16,7 +16,7 @@ mod writing;
 pub use laws::message_spelled;
 pub use messages::{Message, Vote};
 pub use reading::decode;
-pub use writing::encode;
+pub use writing::{encode, message_length};
 
 #[cfg(test)]
 mod tests;

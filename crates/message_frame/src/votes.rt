@@ -56,7 +56,8 @@ fn put_vote(vote: &Vote, out: &mut Vec<u8>)
 fn put_each(votes: &[Vote], out: &mut Vec<u8>)
     requires values { AllByRecursion HasValue votes.now }
     requires room { vec_len out.old + length (flat_map vote_spelling votes.now) ≤ vec_capacity out.old }
-    ensures { out.new.items ≡ out.old.items ++ flat_map vote_spelling votes.now }
+    ensures items { out.new.items ≡ out.old.items ++ flat_map vote_spelling votes.now }
+    ensures capacity { vec_capacity out.old ≤ vec_capacity out.new }
 {
     for vote in votes {
         put_vote(vote, out);
@@ -68,7 +69,8 @@ pub fn put_votes(votes: &[Vote], out: &mut Vec<u8>)
     requires few { length votes.now ≤ 64 }
     requires values { AllByRecursion HasValue votes.now }
     requires room { vec_len out.old + length (votes_spelling votes.now) ≤ vec_capacity out.old }
-    ensures { out.new.items ≡ out.old.items ++ votes_spelling votes.now }
+    ensures items { out.new.items ≡ out.old.items ++ votes_spelling votes.now }
+    ensures capacity { vec_capacity out.old ≤ vec_capacity out.new }
 {
     put_u8(votes.len() as u8, out);
     put_each(votes, out);

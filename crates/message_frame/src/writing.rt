@@ -20,6 +20,7 @@ pub fn encode(message: &Message, out: &mut Vec<u8>) -> Result<(), Memory>
     ensures ok { OnOk result (out.new.items ≡ out.old.items ++ message_spelling message.now) }
     ensures err { OnErr result (out.new.items ≡ out.old.items) }
     ensures room { vec_len out.old + length (message_spelling message.now) ≤ vec_capacity out.old → IsOk result }
+    ensures capacity { vec_capacity out.old ≤ vec_capacity out.new }
 {
     out.reserve(message_length(message))?;
     put_message(message, out);
@@ -27,7 +28,7 @@ pub fn encode(message: &Message, out: &mut Vec<u8>) -> Result<(), Memory>
 }
 
 /// How many bytes spell a message.
-fn message_length(message: &Message) -> usize
+pub fn message_length(message: &Message) -> usize
     requires { IsMessage message.now }
     ensures { result ≡ message_size message.now }
 {
@@ -50,7 +51,8 @@ fn message_length(message: &Message) -> usize
 fn put_message(message: &Message, out: &mut Vec<u8>)
     requires message { IsMessage message.now }
     requires room { vec_len out.old + message_size message.now ≤ vec_capacity out.old }
-    ensures { out.new.items ≡ out.old.items ++ message_spelling message.now }
+    ensures items { out.new.items ≡ out.old.items ++ message_spelling message.now }
+    ensures capacity { vec_capacity out.old ≤ vec_capacity out.new }
 {
     match message {
         Message::Copy {

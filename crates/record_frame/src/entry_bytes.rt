@@ -21,7 +21,8 @@ const FIELD_BYTES: usize = 14;
 fn put_entry(client: Client, number: Number, bytes: &[u8], out: &mut Vec<u8>)
     requires size { length bytes.now ≤ 65535 }
     requires room { vec_len out.old + 15 + length bytes.now ≤ vec_capacity out.old }
-    ensures { out.new.items ≡ out.old.items ++ entry_spelling (entry_of client number bytes.now) }
+    ensures items { out.new.items ≡ out.old.items ++ entry_spelling (entry_of client number bytes.now) }
+    ensures capacity { vec_capacity out.old ≤ vec_capacity out.new }
 {
     put_u8(1, out);
     put_u16(client.0, out);
@@ -41,6 +42,7 @@ pub fn write_entry(
     ensures ok { OnOk result (out.new.items ≡ out.old.items ++ entry_spelling (entry_of client number bytes.now)) }
     ensures err { OnErr result (out.new.items ≡ out.old.items) }
     ensures room { vec_len out.old + length (entry_spelling (entry_of client number bytes.now)) ≤ vec_capacity out.old → IsOk result }
+    ensures capacity { vec_capacity out.old ≤ vec_capacity out.new }
 {
     out.reserve(1 + FIELD_BYTES + bytes.len())?;
     put_entry(client, number, bytes, out);
