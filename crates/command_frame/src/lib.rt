@@ -7,6 +7,7 @@ mod frames;
 mod item_reader;
 mod items;
 mod laws;
+mod making;
 mod reading;
 mod replies;
 mod writing;
@@ -15,8 +16,9 @@ pub use answers::{ItemFault, Next};
 pub use item_reader::ItemReader;
 pub use items::Item;
 pub use laws::{item_spelled, one_spelling};
+pub use making::make;
 pub use replies::Reply;
-pub use writing::write_reply;
+pub use writing::{put_reply, reply_length, write_reply};
 
 #[cfg(test)]
 mod tests;

@@ -1,4 +1,5 @@
-//! Vectors of items and replies, what is no item, and the limits.
+//! Vectors of items and replies, what is no item, the limits, and items that are made.
 
 mod items;
+mod making;
 mod replies;

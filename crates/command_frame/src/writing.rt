@@ -29,7 +29,7 @@ pub fn write_reply(lane: u8, reply: &Reply, out: &mut Vec<u8>) -> Result<(), Mem
 
 /// How many bytes a reply has.
 #[tactic(auto, unfolding(log_base::specs::Wide::be2, log_base::specs::Wide::be4, log_base::specs::Wide::be8))]
-fn reply_length(reply: &Reply) -> u32
+pub fn reply_length(reply: &Reply) -> u32
     requires is_reply { IsReply reply.now }
     requires fits { length (reply_bytes reply.now) ≤ 2097152 }
     ensures { result ≡ length (reply_bytes reply.now) }
@@ -69,7 +69,7 @@ fn reply_length(reply: &Reply) -> u32
 
 /// Appends a reply, for which there has to be room.
 #[tactic(auto, unfolding(log_base::specs::Wide::be2, log_base::specs::Wide::be4, log_base::specs::Wide::be8))]
-fn put_reply(reply: &Reply, out: &mut Vec<u8>)
+pub fn put_reply(reply: &Reply, out: &mut Vec<u8>)
     requires is_reply { IsReply reply.now }
     requires room { vec_len out.old + length (reply_bytes reply.now) ≤ vec_capacity out.old }
     ensures { out.new.items ≡ out.old.items ++ reply_bytes reply.now }
