@@ -1,0 +1,13 @@
+pub mod ByKind
+pub mod FrameLaws
+pub mod HappenedLaws
+pub mod InputLaws
+pub mod Loops
+pub mod Many
+pub mod MergeLaws
+pub mod PieceLaws
+pub mod Puts
+pub mod ReaderLaws
+pub mod ReplyLaws
+pub mod Sizes
+pub mod TextParts

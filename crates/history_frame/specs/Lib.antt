@@ -1,0 +1,9 @@
+pub mod Frames
+pub mod Laws
+pub mod Merging
+pub mod Reader
+pub mod Reading
+pub mod ReplyReading
+pub mod Spelling
+pub mod Widths
+pub mod Writing

@@ -1,0 +1,81 @@
+//! Reading a frame from a source.
+
+ghost use Rattle.std.specs.Prelude.{◌≡◌, ℕ, ◌<◌, ◌≤◌, length, slice_index, IfOk, OnErr};
+ghost use Rattle.std.specs.Io.KnownBytes.{Consumes, IsAtEnd};
+ghost use Rattle.log_base.specs.Outside.{Rose, unread, ReadsOn, TakesOn};
+ghost use Rattle.history_frame.specs.Reader.{FindsFrame};
+
+use crate::frame_reading::find_piece;
+use crate::pieces::Piece;
+use crate::stages::Stage;
+use command_frame::ItemFault;
+use log_base::{Memory, PieceReader, Source, Stop, number_u32};
+use std::alloc::Global;
+
+/// How long a frame may be behind its length.
+const LONGEST: u32 = 2_097_152;
+
+/// The piece of the next frame, which begins at a place, and how many bytes its frame has, or none where the source is
+/// at its end.
+pub fn read_framed<S: Source>(
+    alloc: Global,
+    stage: Stage,
+    events: u32,
+    place: u64,
+    pieces: &mut PieceReader,
+    source: &mut S,
+) -> Result<Option<(Piece, u32)>, ItemFault>
+    ensures finds { FindsFrame stage events (unread pieces.old.pending (S.left source.old)) (unread pieces.new.pending (S.left source.new)) result }
+    ensures passes { ReadsOn (unread pieces.old.pending (S.left source.old)) (unread pieces.new.pending (S.left source.new)) }
+    ensures taken { TakesOn pieces.old.taken pieces.new.taken (S.left source.old) (S.left source.new) }
+    ensures bad { (at : ℕ) → result ≡ Err (ItemFault.Bad at) → at ≡ place }
+    ensures read { (at : ℕ) → result ≡ Err (ItemFault.Read at) → Rose (S.faults source.old) (S.faults source.new) × (at ≡ pieces.new.taken) }
+    ensures later { S.faults source.old ≤ S.faults source.new }
+{
+    let head = take(alloc, pieces, source, 4)?;
+    if head.is_empty() {
+        return Ok(None);
+    }
+    if head.len() < 4 {
+        return Err(ItemFault::Bad { at: place });
+    }
+    let length = number_u32(&head, 0);
+    if length == 0 || length > LONGEST {
+        return Err(ItemFault::Bad { at: place });
+    }
+    let frame = take(alloc, pieces, source, length as usize)?;
+    if frame.len() < length as usize {
+        return Err(ItemFault::Bad { at: place });
+    }
+    let (kind, body) = frame.split_at(1);
+    match find_piece(alloc, stage, events, kind[0], body) {
+        Ok(Some(piece)) => Ok(Some((piece, length + 4))),
+        Ok(None) => Err(ItemFault::Bad { at: place }),
+        Err(Memory) => Err(ItemFault::Memory),
+    }
+}
+
+/// The next bytes, as many as are wanted, or all that are left where those are fewer.
+fn take<S: Source>(
+    alloc: Global,
+    pieces: &mut PieceReader,
+    source: &mut S,
+    wanted: usize,
+) -> Result<Vec<u8>, ItemFault>
+    ensures bytes { IfOk result (λ bytes. Consumes (unread pieces.old.pending (S.left source.old)) (unread pieces.new.pending (S.left source.new)) bytes.items) }
+    ensures count { IfOk result (λ bytes. length bytes.items ≤ wanted) }
+    ensures short { IfOk result (λ bytes. length bytes.items < wanted → IsAtEnd (unread pieces.new.pending (S.left source.new))) }
+    ensures fits { IfOk result (λ bytes. (k : ℕ) → slice_index bytes.items k < 256) }
+    ensures err { OnErr result (ReadsOn (unread pieces.old.pending (S.left source.old)) (unread pieces.new.pending (S.left source.new))) }
+    ensures taken { TakesOn pieces.old.taken pieces.new.taken (S.left source.old) (S.left source.new) }
+    ensures read { (at : ℕ) → result ≡ Err (ItemFault.Read at) → Rose (S.faults source.old) (S.faults source.new) × (at ≡ pieces.new.taken) }
+    ensures bad { (at : ℕ) → result ≡ Err (ItemFault.Bad at) → ⊥ }
+    ensures many { (cause : ℕ) → result ≡ Err (ItemFault.Many cause) → ⊥ }
+    ensures later { S.faults source.old ≤ S.faults source.new }
+{
+    match pieces.take(alloc, source, wanted) {
+        Ok(bytes) => Ok(bytes),
+        Err(Stop::Read) => Err(ItemFault::Read { at: pieces.taken() }),
+        Err(Stop::Memory) => Err(ItemFault::Memory),
+    }
+}

@@ -1,0 +1,258 @@
+//! Reading what happened.
+
+ghost use Rattle.std.specs.Prelude.{◌≡◌, ℕ, ◌≤◌, length, IfOk};
+ghost use Rattle.record_frame.specs.Fields.{Gives};
+ghost use Rattle.history_frame.specs.Reading.{submit_at, ask_at, read_at, request_at, settled_at, call_fields_at, deliver_at, call_at, input_fields_at, input_at, mark_of, mark_at, sent_at, outputs_at, happened_told, happened_at};
+
+use crate::events::{Happened, Sent};
+use crate::inputs::{Call, Input, Mark};
+use crate::reply_reading::{read_bytes_end, read_plain_entry, read_reply};
+use log_base::{Client, List, NodeId, Number, Position};
+use message_frame::decode;
+use record_frame::{Refusal, read_u8, read_u16, read_u32, read_u64, read_value_at};
+use std::alloc::Global;
+
+/// The greatest length of a message, which is that of a frame.
+const LONGEST: u32 = 2_097_152;
+
+#[tactic(auto, unfolding(crate::specs::Reading::submit_at))]
+fn read_submit(alloc: Global, bytes: &[u8], at: usize) -> Result<(Call, usize), Refusal>
+    requires { at ≤ length bytes.now }
+    ensures read { Gives (λ x. x) result (submit_at bytes.now at) }
+    ensures within { IfOk result (λ x. x.1 ≤ length bytes.now) }
+{
+    let (entry, next) = read_plain_entry(alloc, bytes, at)?;
+    let call = Call::Submit {
+        client: entry.client,
+        number: entry.number,
+        bytes: entry.bytes,
+    };
+    Ok((call, next))
+}
+
+#[tactic(auto, unfolding(crate::specs::Reading::ask_at))]
+fn read_ask(bytes: &[u8], at: usize) -> Result<(Call, usize), Refusal>
+    requires { at ≤ length bytes.now }
+    ensures read { result ≡ ask_at bytes.now at }
+    ensures within { IfOk result (λ x. x.1 ≤ length bytes.now) }
+{
+    let (client, next) = read_u16(bytes, at)?;
+    let (number, next) = read_u64(bytes, next)?;
+    let call = Call::Ask {
+        client: Client(client),
+        number: Number(number),
+    };
+    Ok((call, next))
+}
+
+#[tactic(auto, unfolding(crate::specs::Reading::read_at))]
+fn read_read(bytes: &[u8], at: usize) -> Result<(Call, usize), Refusal>
+    requires { at ≤ length bytes.now }
+    ensures read { result ≡ read_at bytes.now at }
+    ensures within { IfOk result (λ x. x.1 ≤ length bytes.now) }
+{
+    let (client, next) = read_u16(bytes, at)?;
+    let (position, next) = read_u64(bytes, next)?;
+    let call = Call::Read {
+        client: Client(client),
+        position: Position(position),
+    };
+    Ok((call, next))
+}
+
+#[tactic(auto, unfolding(crate::specs::Reading::request_at))]
+fn read_request(bytes: &[u8], at: usize) -> Result<(Call, usize), Refusal>
+    requires { at ≤ length bytes.now }
+    ensures read { result ≡ request_at bytes.now at }
+    ensures within { IfOk result (λ x. x.1 ≤ length bytes.now) }
+{
+    let (client, next) = read_u16(bytes, at)?;
+    let (value, next) = read_value_at(bytes, next)?;
+    let call = Call::Request {
+        client: Client(client),
+        value,
+    };
+    Ok((call, next))
+}
+
+#[tactic(auto, unfolding(crate::specs::Reading::settled_at))]
+fn read_settled(bytes: &[u8], at: usize) -> Result<(Call, usize), Refusal>
+    requires { at ≤ length bytes.now }
+    ensures read { result ≡ settled_at bytes.now at }
+    ensures within { IfOk result (λ x. x.1 ≤ length bytes.now) }
+{
+    let (client, next) = read_u16(bytes, at)?;
+    let (value, next) = read_value_at(bytes, next)?;
+    let (from, next) = read_u32(bytes, next)?;
+    let call = Call::Settled {
+        client: Client(client),
+        value,
+        from,
+    };
+    Ok((call, next))
+}
+
+/// Reads the fields of a call of some kind.
+#[tactic(auto, unfolding(crate::specs::Reading::call_fields_at))]
+fn read_call_fields(
+    alloc: Global,
+    bytes: &[u8],
+    at: usize,
+    kind: u8,
+) -> Result<(Call, usize), Refusal>
+    requires { at ≤ length bytes.now }
+    ensures read { Gives (λ x. x) result (call_fields_at kind bytes.now at) }
+    ensures within { IfOk result (λ x. x.1 ≤ length bytes.now) }
+{
+    match kind {
+        1 => read_submit(alloc, bytes, at),
+        2 => read_ask(bytes, at),
+        3 => read_read(bytes, at),
+        4 => read_request(bytes, at),
+        5 => read_settled(bytes, at),
+        _ => Err(Refusal::BadKind { byte: kind }),
+    }
+}
+
+#[tactic(auto, unfolding(crate::specs::Reading::deliver_at))]
+fn read_deliver(bytes: &[u8], at: usize) -> Result<(Input, usize), Refusal>
+    requires { at ≤ length bytes.now }
+    ensures read { result ≡ deliver_at bytes.now at }
+    ensures within { IfOk result (λ x. x.1 ≤ length bytes.now) }
+{
+    let (place, next) = read_u32(bytes, at)?;
+    let (index, next) = read_u8(bytes, next)?;
+    let input = Input::Deliver {
+        place,
+        index,
+        message: None,
+    };
+    Ok((input, next))
+}
+
+#[tactic(auto, unfolding(crate::specs::Reading::call_at))]
+fn read_call(alloc: Global, bytes: &[u8], at: usize) -> Result<(Input, usize), Refusal>
+    requires { at ≤ length bytes.now }
+    ensures read { Gives (λ x. x) result (call_at bytes.now at) }
+    ensures within { IfOk result (λ x. x.1 ≤ length bytes.now) }
+{
+    let (kind, next) = read_u8(bytes, at)?;
+    let (call, next) = read_call_fields(alloc, bytes, next, kind)?;
+    Ok((Input::Call(call), next))
+}
+
+/// Reads the fields of an input of some kind. A letter has no message.
+#[tactic(auto, unfolding(crate::specs::Reading::input_fields_at))]
+fn read_input_fields(
+    alloc: Global,
+    bytes: &[u8],
+    at: usize,
+    kind: u8,
+) -> Result<(Input, usize), Refusal>
+    requires { at ≤ length bytes.now }
+    ensures read { Gives (λ x. x) result (input_fields_at kind bytes.now at) }
+    ensures within { IfOk result (λ x. x.1 ≤ length bytes.now) }
+{
+    match kind {
+        1 => read_deliver(bytes, at),
+        2 => read_call(alloc, bytes, at),
+        3 => Ok((Input::Tick, at)),
+        4 => Ok((Input::Lead, at)),
+        5 => Ok((Input::Stop, at)),
+        6 => Ok((Input::Restart, at)),
+        _ => Err(Refusal::BadKind { byte: kind }),
+    }
+}
+
+#[tactic(auto, unfolding(crate::specs::Reading::input_at))]
+fn read_input(alloc: Global, bytes: &[u8], at: usize) -> Result<(Input, usize), Refusal>
+    requires { at ≤ length bytes.now }
+    ensures read { Gives (λ x. x) result (input_at bytes.now at) }
+    ensures within { IfOk result (λ x. x.1 ≤ length bytes.now) }
+{
+    let (kind, next) = read_u8(bytes, at)?;
+    read_input_fields(alloc, bytes, next, kind)
+}
+
+/// The mark of a byte.
+#[tactic(auto, unfolding(crate::specs::Reading::mark_of))]
+fn mark_of_byte(byte: u8) -> Result<Mark, Refusal>
+    ensures { result ≡ mark_of byte }
+{
+    match byte {
+        0 => Ok(Mark::Done),
+        1 => Ok(Mark::Halted),
+        2 => Ok(Mark::OpenedWithout),
+        3 => Ok(Mark::OpenedWith),
+        4 => Ok(Mark::StayedDown),
+        _ => Err(Refusal::BadKind { byte }),
+    }
+}
+
+#[tactic(auto, unfolding(crate::specs::Reading::mark_at))]
+fn read_mark(bytes: &[u8], at: usize) -> Result<(Mark, usize), Refusal>
+    requires { at ≤ length bytes.now }
+    ensures read { result ≡ mark_at bytes.now at }
+    ensures within { IfOk result (λ x. x.1 ≤ length bytes.now) }
+{
+    let (byte, next) = read_u8(bytes, at)?;
+    let mark = mark_of_byte(byte)?;
+    Ok((mark, next))
+}
+
+#[tactic(auto, unfolding(crate::specs::Reading::sent_at, crate::specs::ReplyReading::bytes_at))]
+fn read_sent(alloc: Global, bytes: &[u8], at: usize) -> Result<(Sent, usize), Refusal>
+    requires { at ≤ length bytes.now }
+    ensures read { Gives (λ x. x) result (sent_at bytes.now at) }
+    ensures within { IfOk result (λ x. x.1 ≤ length bytes.now) }
+{
+    let (to, start) = read_u16(bytes, at)?;
+    let next = read_bytes_end(bytes, start, LONGEST)?;
+    let message = decode(alloc, &bytes[start + 4..next])?;
+    let sent = Sent {
+        to: NodeId(to),
+        message,
+    };
+    Ok((sent, next))
+}
+
+fn read_outputs(
+    alloc: Global,
+    bytes: &[u8],
+    at: usize,
+    count: u8,
+) -> Result<(Vec<Sent>, usize), Refusal>
+    requires { at ≤ length bytes.now }
+    ensures read { Gives (λ x. (x.0.items, x.1)) result (outputs_at count bytes.now at) }
+    ensures within { IfOk result (λ x. x.1 ≤ length bytes.now) }
+{
+    let mut outputs = Vec::new(alloc);
+    let mut place = at;
+    for i in 0..count {
+        let (sent, next) = read_sent(alloc, bytes, place)?;
+        outputs.push(sent)?;
+        place = next;
+    }
+    Ok((outputs, place))
+}
+
+/// Reads what happened.
+#[tactic(auto, unfolding(crate::specs::Reading::happened_at))]
+pub fn read_happened(alloc: Global, bytes: &[u8], at: usize) -> Result<(Happened, usize), Refusal>
+    requires { at ≤ length bytes.now }
+    ensures read { Gives (λ x. (happened_told x.0, x.1)) result (happened_at bytes.now at) }
+    ensures within { IfOk result (λ x. x.1 ≤ length bytes.now) }
+{
+    let (input, next) = read_input(alloc, bytes, at)?;
+    let (mark, next) = read_mark(bytes, next)?;
+    let (count, next) = read_u8(bytes, next)?;
+    let (outputs, next) = read_outputs(alloc, bytes, next, count)?;
+    let (reply, next) = read_reply(alloc, bytes, next)?;
+    let happened = Happened {
+        input,
+        mark,
+        outputs: List::of(outputs),
+        reply,
+    };
+    Ok((happened, next))
+}
