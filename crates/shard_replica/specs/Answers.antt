@@ -1,5 +1,5 @@
 -- How the answers of a replica tell those of its rule.
-use Rattle.std.specs.Prelude.{◌≡◌, ℕ, suc, length, List, Option, Some, None, IsSome, Bool, true, false}
+use Rattle.std.specs.Prelude.{◌≡◌, ℕ, suc, ◌≤◌, length, List, Option, Some, None, IsSome, Bool, true, false}
 use Rattle.record_frame.specs.declared.entries.Entry.{Entry}
 use Rattle.record_frame.specs.Entries.{entry_of}
 use Rattle.peer_copy.specs.declared.taking.Taking.{Taking}
@@ -100,3 +100,10 @@ TellsRead (FoundNow head bytes) answer =
 TellsRead (TrimmedNow mark) answer = answer ≡ TrimmedSo mark.0
 TellsRead (PendingEnd end) answer = answer ≡ PendingSo end.0
 TellsRead (ElsewhereNow shard) answer = answer ≡ ElsewhereSo shard.0
+
+-- a record that is found is not too long
+abbrev pub HasRecordSize : ReadAnswer → Type 0
+HasRecordSize (FoundNow head bytes) = length bytes.now ≤ 65535
+HasRecordSize (TrimmedNow mark) = Unit {0}
+HasRecordSize (PendingEnd end) = Unit {0}
+HasRecordSize (ElsewhereNow shard) = Unit {0}

@@ -150,6 +150,7 @@ impl<J: Journal> IndexedLists<J> {
         ensures segments { self.new.lists.segments ≡ self.old.lists.segments }
         ensures media { ReloadsAll result self.old.lists.media self.new.lists.media }
         ensures count { length self.old.lists.media ≡ length self.old.lists.segments }
+        ensures counted { length self.new.lists.media ≡ length self.new.lists.segments }
         ensures flight { OnOk result ((k : ℕ) → (medium_at self.new.lists.media k).reloaded ≡ Some Installed.OneMore
             → IsSome (segment_at self.new.lists.segments k).flight) }
         ensures ok { OnOk result (self.new.lists.last_reload ≡ Some LastReload.Read) }

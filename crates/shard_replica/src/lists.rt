@@ -118,6 +118,7 @@ impl<J: Journal> Lists<J> {
         ensures segments { self.new.segments ≡ self.old.segments }
         ensures media { ReloadsAll result self.old.media self.new.media }
         ensures count { length self.old.media ≡ length self.old.segments }
+        ensures counted { length self.new.media ≡ length self.new.segments }
         ensures flight { OnOk result ((k : ℕ) → (medium_at self.new.media k).reloaded ≡ Some Installed.OneMore
             → IsSome (segment_at self.new.segments k).flight) }
         ensures ok { OnOk result (self.new.last_reload ≡ Some LastReload.Read) }

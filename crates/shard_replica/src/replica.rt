@@ -158,6 +158,36 @@ impl<J: Journal, P: Places> ShardReplica<J, P> {
         Learned::Added
     }
 
+    /// The length of a list.
+    pub fn len(&self, segment: Replica) -> u32
+        requires { segment.0 < self.now.state.config.replicas }
+        ensures len { result ≡ length (segment_at self.now.state.segments segment.0).entries }
+        ensures few { result ≤ 16384 }
+    {
+        self.lists.len(segment)
+    }
+
+    /// How many values are known.
+    pub fn known(&self) -> u32
+        ensures { result ≡ self.now.state.known.count }
+    {
+        self.chain.len()
+    }
+
+    /// The known end of the log.
+    pub fn end(&self) -> Position
+        ensures { result.0 ≡ self.now.state.known.chain.end }
+    {
+        self.chain.end()
+    }
+
+    /// The known mark, below which positions are given up.
+    pub fn trim(&self) -> Position
+        ensures { result.0 ≡ self.now.state.known.chain.mark }
+    {
+        self.chain.trim()
+    }
+
     /// The spelling of the entry at an offset of a list.
     pub fn payload(&self, segment: Replica, offset: u32) -> &[u8]
         requires segment { segment.0 < self.now.state.config.replicas }

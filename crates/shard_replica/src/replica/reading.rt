@@ -2,7 +2,7 @@
 
 ghost use Rattle.log_model.specs.Reading.{read};
 ghost use Rattle.log_model.specs.Storage.{HoldsCovered};
-ghost use Rattle.shard_replica.specs.Answers.{TellsRead};
+ghost use Rattle.shard_replica.specs.Answers.{HasRecordSize, TellsRead};
 ghost use Rattle.shard_replica.specs.Replica.{member_of, lists_of};
 
 use super::{ENTRY_BYTES, ShardReplica};
@@ -17,7 +17,8 @@ impl<J: Journal, P: Places> ShardReplica<J, P> {
     #[tactic(auto, unfolding(log_model::specs::Reading::read))]
     pub fn read(&self, position: Position) -> ReadAnswer<'_>
         requires { HoldsCovered (member_of self.now.state) (lists_of self.now.state) self.now.state.known }
-        ensures { TellsRead result (read (member_of self.now.state) (lists_of self.now.state) self.now.state.known position.0) }
+        ensures answer { TellsRead result (read (member_of self.now.state) (lists_of self.now.state) self.now.state.known position.0) }
+        ensures size { HasRecordSize result }
     {
         let mark = self.chain.trim();
         if position.0 < mark.0 {

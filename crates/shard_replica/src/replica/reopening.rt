@@ -18,6 +18,7 @@ impl<J: Journal, P: Places> ShardReplica<J, P> {
         ensures state { self.new.state ≡ self.old.state }
         ensures media { ReloadsAll result self.old.media self.new.media }
         ensures count { length self.old.media ≡ self.old.state.config.replicas }
+        ensures counted { length self.new.media ≡ self.new.state.config.replicas }
         ensures flight { OnOk result ((k : ℕ) → (medium_at self.new.media k).reloaded ≡ Some Installed.OneMore
             → IsSome (segment_at self.new.state.segments k).flight) }
         ensures ok { OnOk result (self.new.last_reload ≡ Some LastReload.Read) }

@@ -54,8 +54,8 @@ slice_bounds-result-count g c = let size = length-spelled c.payload-payload.resu
 pub slice_bounds-result-start : goal.slice_bounds-result-start
 slice_bounds-result-start g c = let size = length-spelled c.payload-payload.result.now c.payload-payload.ensures.spelled in omega (arith, size.0)
 
-pub returns : goal.returns
-returns g c =
+pub returns-clause-answer : goal.returns-clause-answer
+returns-clause-answer g c =
     let place = c.in-Some.place in
     let config = shape c.self.inside.config in
     let values = c.self.invariant.values in
@@ -85,3 +85,9 @@ returns g c =
     (subst (λ (p : Position). p.0 ≤ c.args.position.0) c.trim-mark.ensures c.if-position-mark.false) in
     let told = found-told c.head_of-head.result payload (take (length payload - 15) (drop 15 payload)) (record-of payload c.payload-payload.ensures.spelled) c.head_of-head.ensures in
     (read-found (member_of state) (lists_of state) state.known c.args.position.0 place (entry_in payload) mark at shard found ∙ told.0, told.1)
+
+pub returns-clause-size : goal.returns-clause-size
+returns-clause-size g c =
+    let payload = c.payload-payload.result.now in
+    let spelled = c.payload-payload.ensures.spelled in
+    subst (λ (bytes : List ℕ). length bytes ≤ 65535) (sym (record-of payload spelled)) spelled.entry.size
