@@ -9,21 +9,17 @@ use Rattle.message_frame.specs.declared.messages.Vote.{Vote}
 use Rattle.segment_journal.specs.Journalled.{Journalled, with_payload}
 use Rattle.paxos_model.specs.Acceptor.{Granted, prepare}
 use Rattle.paxos_model.specs.Leader.{is_of_slot}
-use Rattle.paxos_model.specs.Payloads.{IsPayload, payload_spelling, payload_of}
+use Rattle.paxos_model.specs.Payloads.{IsPayload, payload_spelling, payload_of, payload_in, payloads_in, payload_found}
 use Rattle.paxos_model.specs.Votes.{Payload, Promise, Voted, promised, votes, keep, greatest, put_first, reports}
-use Rattle.paxos_model.proofs.Payloads.{payload_spelled}
+use Rattle.paxos_model.proofs.Payloads.{payload_in-spelling}
 use Rattle.paxos_acceptor.specs.declared.rows.Row.{Row}
 use Rattle.paxos_acceptor.specs.declared.answers.Prepared.TheVariants.{Promised as PromisedNow}
 use Rattle.paxos_acceptor.specs.Accepting.{TellsPromised}
-use Rattle.paxos_acceptor.specs.Listed.{payload_in, payloads_in, payload_found, list_of, after_put}
+use Rattle.paxos_acceptor.specs.Listed.{list_of, after_put}
 use Rattle.paxos_acceptor.specs.Table.{Table, Tables, IsRow, IsUpTo, row_at, no_row}
 use Rattle.paxos_acceptor.proofs.Greatest.{row_other}
 
 -- ---- lists
-
-payload_in-spelling : (payload : Payload) → IsPayload payload → payload_in (payload_spelling payload) ≡ payload
-unfolding payload_in
-payload_in-spelling payload is = ap payload_found (payload_spelled payload is)
 
 pub payloads_in-more : (payloads : List (List ℕ)) (bytes : List ℕ) → payloads_in (payloads ++ bytes ∷ []) ≡ payloads_in payloads ++ payload_in bytes ∷ []
 payloads_in-more payloads bytes = map-append payload_in payloads (bytes ∷ [])

@@ -5,10 +5,10 @@ use Rattle.std.specs.Option.{option_map}
 use Rattle.std.proofs.lemmas.List.{take_all, take_more, drop_all, drop_more}
 use Rattle.std.proofs.lemmas.Option.{slice_get_within, get_or_from_slice_get}
 use Rattle.segment_journal.specs.Journalled.{Journalled, end_of}
-use Rattle.paxos_model.specs.Payloads.{payload_of}
+use Rattle.paxos_model.specs.Payloads.{payload_of, payload_in, payloads_in, payload_found}
 use Rattle.paxos_model.specs.Votes.{Payload, Promise}
 use Rattle.paxos_acceptor.specs.declared.payloads.Entry.{Entry}
-use Rattle.paxos_acceptor.specs.Listed.{payload_so, payload_in, payloads_in, payload_found, list_of, bad_from, bad_offset}
+use Rattle.paxos_acceptor.specs.Listed.{payload_so, list_of, bad_from, bad_offset}
 use Rattle.paxos_acceptor.specs.Table.{Table, Tables}
 use Rattle.paxos_acceptor.proofs.Noted.{payloads_in-more}
 

@@ -1,8 +1,8 @@
 -- The list of an acceptor, from the payloads of its journal.
-use Rattle.std.specs.Prelude.{ℕ, suc, ◌≤◌, List, [], ◌∷◌, map, is_some, if◌then◌else◌, Option, Some, None, Result, Ok, Err, Bool, true, false}
+use Rattle.std.specs.Prelude.{ℕ, suc, ◌≤◌, List, [], ◌∷◌, is_some, if◌then◌else◌, Option, Some, None, Result, Ok, Err, Bool, true, false}
 use Rattle.record_frame.specs.declared.refusals.Refusal.{Refusal}
 use Rattle.segment_journal.specs.Journalled.{Journalled, with_payload, with_flight}
-use Rattle.paxos_model.specs.Payloads.{payload_spelling, payload_of}
+use Rattle.paxos_model.specs.Payloads.{payload_spelling, payload_of, payloads_in}
 use Rattle.paxos_model.specs.Votes.{Payload, Promise, Voted}
 use Rattle.paxos_acceptor.specs.declared.payloads.Entry.{Entry}
 use Rattle.paxos_acceptor.specs.declared.payloads.Entry.TheVariants.{Promise as PromiseOf, Vote as VoteOf}
@@ -21,17 +21,6 @@ read_so (Err refusal) = Err refusal
 abbrev pub HasSlot : Entry → Type 0
 HasSlot (PromiseOf ballot) = Unit {0}
 HasSlot (VoteOf vote) = vote.slot.0 ≤ 16383
-
--- the payload that was read; bytes that spell none, which no acceptor puts, promise nothing
-abbrev pub payload_found : Option Payload → Payload
-payload_found None = Promise 0
-payload_found (Some payload) = payload
-
-unfoldable pub payload_in : List ℕ → Payload
-payload_in bytes = payload_found (payload_of bytes)
-
-abbrev pub payloads_in : List (List ℕ) → List Payload
-payloads_in payloads = map payload_in payloads
 
 -- the promises and votes of a journal
 abbrev pub list_of : Journalled → List Payload

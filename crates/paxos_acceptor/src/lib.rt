@@ -14,6 +14,7 @@ mod table;
 pub use acceptor::Acceptor;
 pub use answers::{Acceptance, BadList, Prepared};
 pub use laws::payloads_are_listed;
+pub use payloads::{Entry, read_entry};
 
 #[cfg(test)]
 mod tests;

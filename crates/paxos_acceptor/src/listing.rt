@@ -4,7 +4,8 @@ ghost use Rattle.std.specs.Prelude.{◌≡◌, ◌-◌, ◌≤◌, List, [], ◌
 ghost use Rattle.std.specs.Option.{option_map};
 ghost use Rattle.paxos_model.specs.Votes.{Payload};
 ghost use Rattle.segment_journal.specs.Journalled.{end_of};
-ghost use Rattle.paxos_acceptor.specs.Listed.{HasSlot, bad_offset, list_of, payload_found, payload_so, payloads_in};
+ghost use Rattle.paxos_model.specs.Payloads.{payload_found, payloads_in};
+ghost use Rattle.paxos_acceptor.specs.Listed.{HasSlot, bad_offset, list_of, payload_so};
 ghost use Rattle.paxos_acceptor.specs.Table.{Tables};
 
 use crate::payloads::{Entry, read_entry};

@@ -14,7 +14,7 @@ use Rattle.record_frame.specs.declared.values.Value.{Value}
 use Rattle.record_frame.specs.Fields.{StandsAt, u8_at}
 use Rattle.record_frame.specs.Values.{value_spelling}
 use Rattle.record_frame.proofs.FieldLaws.{bind_ok, given, ok_is, StandsAt-then, StandsAt-front, StandsAt-back, front_stands, u8_takes, u8_again}
-use Rattle.paxos_model.specs.Payloads.{IsPayload, payload_spelling, payload_limit, promise_at, voted_at, payload_fields_at, payload_at, ends_at, payload_of}
+use Rattle.paxos_model.specs.Payloads.{IsPayload, payload_spelling, payload_limit, promise_at, voted_at, payload_fields_at, payload_at, ends_at, payload_of, payload_found, payload_in}
 use Rattle.paxos_model.specs.Votes.{Payload, Promise, Voted}
 
 slot_part : IsPart (slot_at 0 16383) (λ slot. slot.0 ≤ 16383) (λ slot. be4 slot.0)
@@ -118,6 +118,10 @@ payload_spelled payload is =
     let read = payload_again text 0 (length text) payload is (front_stands text text [] (sym (append-nil text))) in
     let same = eq-eqb (length text) (length text) refl in
     rw (read, same) refl
+
+pub payload_in-spelling : (payload : Payload) → IsPayload payload → payload_in (payload_spelling payload) ≡ payload
+unfolding payload_in
+payload_in-spelling payload is = ap payload_found (payload_spelled payload is)
 
 -- a spelling is short
 pub payload_short : (payload : Payload) → IsPayload payload → length (payload_spelling payload) ≤ payload_limit

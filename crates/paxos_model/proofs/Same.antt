@@ -5,7 +5,7 @@ use Rattle.record_frame.specs.declared.values.Value.{Value}
 use Rattle.record_frame.specs.declared.values.Value.TheVariants.{Noop, Cut, Add, Finalise, Trim}
 use Rattle.paxos_model.specs.Values.{same_numbers, same_value}
 
-same_numbers-true : (xs ys : List ℕ) → same_numbers xs ys ≡ true → xs ≡ ys
+pub same_numbers-true : (xs ys : List ℕ) → same_numbers xs ys ≡ true → xs ≡ ys
 same_numbers-true [] [] e = refl
 same_numbers-true [] (y ∷ ys) e = absurd (cc)
 same_numbers-true (x ∷ xs) [] e = absurd (cc)
@@ -13,7 +13,7 @@ same_numbers-true (x ∷ xs) (y ∷ ys) e =
     let parts = and_parts _ _ e in
     ap₂ (λ a (rest : List ℕ). a ∷ rest) (eqb-true x y parts.0) (same_numbers-true xs ys parts.1)
 
-same_numbers-refl : (xs : List ℕ) → same_numbers xs xs ≡ true
+pub same_numbers-refl : (xs : List ℕ) → same_numbers xs xs ≡ true
 same_numbers-refl [] = refl
 same_numbers-refl (x ∷ xs) = and_from (x == x) (same_numbers xs xs) (eq-eqb x x refl) (same_numbers-refl xs)
 

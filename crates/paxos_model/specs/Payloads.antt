@@ -1,5 +1,5 @@
 -- How a payload of an orderer's list is spelled, and which payload bytes spell.
-use Rattle.std.specs.Prelude.{ℕ, ◌≤◌, List, ◌∷◌, ◌++◌, length, ◌==◌, if◌then◌else◌, Option, Some, None, Result, Ok, Err}
+use Rattle.std.specs.Prelude.{◌≡◌, ℕ, ◌≤◌, List, ◌∷◌, ◌++◌, map, length, ◌==◌, if◌then◌else◌, Option, Some, None, Result, Ok, Err}
 use Rattle.log_base.specs.Wide.{be4, be8}
 use Rattle.message_frame.specs.Reading.{ballot_at, slot_at}
 use Rattle.message_frame.specs.Spelling.{IsBallot}
@@ -58,3 +58,20 @@ ends_at end (Err refusal) = None
 -- the payload that all of the bytes spell
 unfoldable pub payload_of : List ℕ → Option Payload
 payload_of bytes = ends_at (length bytes) (payload_at bytes 0)
+
+-- the payload that was read; bytes that spell none, which no acceptor puts, promise nothing
+abbrev pub payload_found : Option Payload → Payload
+payload_found None = Promise 0
+payload_found (Some payload) = payload
+
+unfoldable pub payload_in : List ℕ → Payload
+payload_in bytes = payload_found (payload_of bytes)
+
+-- the promises and votes that bytes of a list spell
+abbrev pub payloads_in : List (List ℕ) → List Payload
+payloads_in payloads = map payload_in payloads
+
+-- the bytes are the spelling of a promise or a vote
+pub record IsSpelled (bytes : List ℕ) : Type 0 where
+  pub payload : IsPayload (payload_in bytes)
+  pub spelling : bytes ≡ payload_spelling (payload_in bytes)

@@ -1,7 +1,8 @@
 use Rattle.std.proofs.Common.{◌∷◌, ◌++◌, [], Option, sym, subst}
 use Rattle.std.specs.Option.{option_map}
 use Rattle.paxos_acceptor.specs.declared.payloads.Entry.{Entry}
-use Rattle.paxos_acceptor.specs.Listed.{payload_found, payload_so}
+use Rattle.paxos_model.specs.Payloads.{payload_found}
+use Rattle.paxos_acceptor.specs.Listed.{payload_so}
 use Rattle.paxos_acceptor.specs.Table.{Tables}
 use Rattle.paxos_acceptor.proofs.Noted.{Tables-nothing}
 use Rattle.paxos_acceptor.proofs.listing.note.Goals as goal

@@ -1,5 +1,5 @@
 use Rattle.std.proofs.Common.{◌≤◌, ◌-◌, take}
-use Rattle.paxos_acceptor.specs.Listed.{payloads_in}
+use Rattle.paxos_model.specs.Payloads.{payloads_in}
 use Rattle.paxos_acceptor.specs.Table.{Tables}
 use Rattle.paxos_acceptor.proofs.listing.note_from.Given as goal
 
