@@ -1,6 +1,6 @@
 -- From one event to whole histories, which grow at their end.
-use Rattle.std.proofs.Common.{◌≡◌, ◌<◌, ◌≤◌, ◌+◌, ◌-◌, ◌&&◌, ℕ, zero, suc, Bool, true, false, cond, ◌==◌, nat_le, nat_lt, List, [], ◌∷◌, ◌++◌, slice_get, Option, Some, None, refl, sym, ap, subst, arith, append_assoc, append-nil, eqb-true, eq-eqb, ltb-true, ltb-false, leb-true, lt-ltb, ◌∙◌}
-use Rattle.std.proofs.lemmas.Bool.{and_parts, cond-true, cond-false}
+use Rattle.std.proofs.Common.{◌≡◌, ◌<◌, ◌≤◌, ◌+◌, ◌-◌, ◌&&◌, ℕ, zero, suc, Bool, true, false, cond, ◌==◌, nat_le, nat_lt, List, [], ◌∷◌, ◌++◌, slice_get, Option, Some, None, refl, sym, ap, subst, arith, append_assoc, append-nil, eqb-true, eq-eqb, ltb-true, ltb-false, lt-ltb, ◌∙◌}
+use Rattle.std.proofs.lemmas.Bool.{cond-true, cond-false}
 use Rattle.std.proofs.lemmas.Bool.Decides.{nat_tests}
 use Rattle.std.specs.List.{AllByRecursion}
 use Rattle.history_frame.specs.declared.events.Event.{Event}
@@ -10,17 +10,19 @@ use Rattle.history_frame.specs.declared.inputs.Input.TheVariants.{Deliver, Call 
 use Rattle.log_base.specs.ClusterShape.{Shape}
 use Rattle.message_frame.specs.declared.messages.Vote.{Vote}
 use Rattle.paxos_model.specs.Votes.{Payload, votes}
-use Rattle.node_model.specs.Histories.{after_event, after_events, events_at, is_at, node_or, orderer_after, sent_in}
-use Rattle.node_model.specs.Nodes.{before_orderers, letter, orderer_node, orderer_of}
-use Rattle.node_model.specs.OrdererLegal.{IsInput, IsEventOf, IsLegalAfter, IsLegalEvent, IsOrdererEvent, IsOtherLetter}
+use Rattle.node_table.specs.Numbering.{orderer_node}
+use Rattle.node_model.specs.Marks.{node_or}
+use Rattle.node_model.specs.Histories.{IsDelivered, after_event, after_events, events_at, is_at, orderer_after, sent_in}
+use Rattle.node_model.specs.Nodes.{before_orderers, letter, orderer_of}
+use Rattle.node_model.specs.OrdererLegal.{IsEventOf, IsLegalAfter, IsLegalEvent, IsOrdererEvent, IsOtherLetter}
 use Rattle.node_model.specs.OrdererNode.{Node, at_first}
-use Rattle.node_model.specs.OrdererRow.{outcome}
+use Rattle.node_model.proofs.Orderers.{orderer_is}
 use Rattle.agreement_law.specs.Elements.{In}
 use Rattle.agreement_law.specs.Invariant.{Holds, Keeps, lists_of}
 use Rattle.agreement_law.specs.World.{replaced}
 use Rattle.agreement_law.proofs.Elements.{got_in, in_left, in_right}
 use Rattle.agreement_law.proofs.Outcomes.{Stepped, outcome_steps}
-use Rattle.agreement_law.proofs.Rows.{IsTrueInput, for_some_at}
+use Rattle.agreement_law.proofs.Rows.{IsTrueInput}
 use Rattle.agreement_law.proofs.Step.{free_step, install, replaced_grow}
 
 -- the letters of one event more
@@ -59,20 +61,7 @@ state_push shape i x node (f ∷ es) e = at (is_at x f) (state_push shape i x (a
     at true p q = p
     at false p q = q
 
--- which orderer a node is
-orderer_is : (shape : Shape) (x i : ℕ) → orderer_of shape x ≡ Some i → (x ≡ orderer_node shape i) × (i < shape.orderers)
-orderer_is shape x i e = at (nat_le (before_orderers shape) x && nat_lt x (before_orderers shape + shape.orderers)) refl e
-  where
-    at : (t : Bool) → (nat_le (before_orderers shape) x && nat_lt x (before_orderers shape + shape.orderers)) ≡ t
-        → cond t (Some (x - before_orderers shape)) None ≡ Some i → (x ≡ orderer_node shape i) × (i < shape.orderers)
-    at true p f =
-        let parts = and_parts _ _ p in
-        let low : before_orderers shape ≤ x = leb-true (before_orderers shape) x parts.0 in
-        let high : x < before_orderers shape + shape.orderers = ltb-true x (before_orderers shape + shape.orderers) parts.1 in
-        let same : x - before_orderers shape ≡ i = cc in
-        (omega arith, omega arith)
-    at false p f = absurd (cc)
-
+-- no orderer is such a node
 no_orderer : (shape : Shape) (x j : ℕ) → orderer_of shape x ≡ None → j < shape.orderers → (x == orderer_node shape j) ≡ false
 no_orderer shape x j e inside = at (nat_le (before_orderers shape) x && nat_lt x (before_orderers shape + shape.orderers)) refl e
   where
@@ -134,15 +123,14 @@ other_push shape kept es e none j = at (nat_lt j shape.orderers) refl
 -- all holds, and no vote was lost
 pub record Onward (n : ℕ) (before after : ℕ → Node) (letters : List Sent) : Type 0 where
   pub holds : Holds n after letters
-  pub stay : (j : ℕ) (x : Vote) → In x (votes (before j).list) → In x (votes (after j).list)
+  pub stay : (j : ℕ) (x : Vote) → In x (votes (before j).durable) → In x (votes (after j).durable)
 
 true_input : (shape : Shape) (kept : ℕ → List Payload) (before : List Event) (node : ℕ) (ps : List Vote)
     → Keeps shape.orderers (orderer_after shape kept before) (sent_in before) ps
-    → (x : Input) → IsInput shape before node x → IsTrueInput shape.orderers (lists_of (orderer_after shape kept before)) ps x
+    → (x : Input) → IsDelivered before node x → IsTrueInput shape.orderers (lists_of (orderer_after shape kept before)) ps x
 true_input shape kept before node ps k (Deliver place index None) a = tt
 true_input shape kept before node ps k (Deliver place index (Some m)) a =
-    let sent = a.1 in
-    k.letters_true (letter node m) (sent_before before place sent.event (letter node m) sent.at (got_in sent.event.happened.outputs index (letter node m) sent.output))
+    k.letters_true (letter node m) (sent_before before place a.event (letter node m) a.at (got_in a.event.happened.outputs index (letter node m) a.output))
 true_input shape kept before node ps k (ACall call) a = tt
 true_input shape kept before node ps k Tick a = tt
 true_input shape kept before node ps k Lead a = tt
@@ -156,9 +144,8 @@ orderer_step shape kept before e i own h legal =
     subst (λ (x : (ℕ → Node) × List Sent). Onward shape.orderers (orderer_after shape kept before) x.0 x.1) (λ j. (node_path j, letters_path j)) made
   where
     stepped : Stepped shape.orderers (lists_of (orderer_after shape kept before)) h.0 i legal.made
-    stepped = for_some_at (Stepped shape.orderers (lists_of (orderer_after shape kept before)) h.0 i) (outcome shape i (orderer_after shape kept before i) e.happened.input e.happened.mark) legal.made
-        (outcome_steps shape (orderer_after shape kept before) h.0 i (orderer_is shape e.node.0 i own).1 h.1.global (h.1.modes i) e.happened.input (true_input shape kept before e.node.0 h.0 h.1 e.happened.input legal.input) e.happened.mark)
-        legal.rule
+    stepped = outcome_steps shape (orderer_after shape kept before) h.0 i (orderer_is shape e.node.0 i own).1 h.1.global (h.1.modes i) e.happened.input
+        (true_input shape kept before e.node.0 h.0 h.1 e.happened.input legal.delivered) e.happened.mark legal.made legal.rule
 
     made : Onward shape.orderers (orderer_after shape kept before) (replaced (orderer_after shape kept before) i legal.made.node) (sent_in before ++ legal.made.outputs)
     made = record {

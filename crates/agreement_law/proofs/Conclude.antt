@@ -8,10 +8,11 @@ use Rattle.message_frame.specs.declared.messages.Message.TheVariants.{Copy, Copy
 use Rattle.message_frame.specs.declared.messages.Vote.{Vote}
 use Rattle.record_frame.specs.declared.values.Value.{Value}
 use Rattle.paxos_model.specs.Votes.{Payload, promised, vote_of, votes}
+use Rattle.node_model.specs.Marks.{Running, Stopped}
 use Rattle.node_model.specs.Chosen.{all_votes, decided}
 use Rattle.node_model.specs.Histories.{durable_after, orderer_after, sent_in}
 use Rattle.node_model.specs.OrdererLegal.{IsOrdererLegal}
-use Rattle.node_model.specs.OrdererNode.{Mode, Node, Running, Stopped, at_first, known_of}
+use Rattle.node_model.specs.OrdererNode.{Mode, Node, at_first, known_of}
 use Rattle.agreement_law.specs.Elements.{In, IsIn, IsPrefix}
 use Rattle.agreement_law.specs.Invariant.{AreChosen, AreFilled, Global, Holds, IsGoodLead, IsGoodMode, IsOpenAt, IsTrueMessage, IsVotedIn, Keeps, lists_of}
 use Rattle.agreement_law.specs.Statements.{AnswersAreTrue, BallotsAreOwned, IsAgreed, IsMessageSent, IsOfBallot, IsPaxosSound, IsTrueAnswer, IsTruePromise, IsUsed, NoRivalIsOpen, PromisesAreTrue}
@@ -23,12 +24,12 @@ use Rattle.agreement_law.proofs.Quorum.{most_weaker}
 
 -- the lists at the start
 pub first_list : (shape : Shape) (kept : ℕ → List Payload) (i : ℕ) → i < shape.orderers → durable_after shape kept [] i ≡ kept i
-first_list shape kept i h = ap (λ (nd : Node). nd.list) (cond-true (nat_lt i shape.orderers) (at_first (kept i)) (at_first []) (lt-ltb i shape.orderers h))
+first_list shape kept i h = ap (λ (nd : Node). nd.durable) (cond-true (nat_lt i shape.orderers) (at_first (kept i)) (at_first []) (lt-ltb i shape.orderers h))
 
 no_list : (shape : Shape) (kept : ℕ → List Payload) (i : ℕ) → shape.orderers ≤ i → durable_after shape kept [] i ≡ []
 no_list shape kept i h = at (nat_lt i shape.orderers) refl
   where
-    at : (t : Bool) → nat_lt i shape.orderers ≡ t → (cond t (at_first (kept i)) (at_first [])).list ≡ []
+    at : (t : Bool) → nat_lt i shape.orderers ≡ t → (cond t (at_first (kept i)) (at_first [])).durable ≡ []
     at true e = absurd (let below = ltb-true i shape.orderers e in omega arith)
     at false e = refl
 

@@ -8,9 +8,12 @@ use Rattle.record_frame.specs.declared.values.Value.{Value}
 use Rattle.paxos_model.specs.Leader.{Leader, Pending, awaits_promise, with_acceptance, with_promise}
 use Rattle.paxos_model.specs.Majority.{most}
 use Rattle.paxos_model.specs.Votes.{Payload, promised, vote_of, votes}
-use Rattle.node_model.specs.Nodes.{letter, orderer_node, to_learners, to_orderers}
-use Rattle.node_model.specs.OrdererNode.{Orderer, Running}
-use Rattle.node_model.specs.OrdererRow.{accept_message, accepted_for, accepted_to, counted, decide_letter, decide_letters, decide_message, decided_by, go_on, learned, lowered, on_accepted, on_lower, on_promised, on_tick, on_want, one_tick, prepare_message, promised_to, quiet, tick_leader, tick_pending, told, want_message, with_leader}
+use Rattle.node_table.specs.Numbering.{orderer_node}
+use Rattle.node_model.specs.Messages.{accept_message, decide_message, prepare_message, want_message}
+use Rattle.node_model.specs.Marks.{Running}
+use Rattle.node_model.specs.Nodes.{letter, to_learners, to_orderers}
+use Rattle.node_model.specs.OrdererNode.{Orderer}
+use Rattle.node_model.specs.OrdererRow.{accepted_for, accepted_to, counted, decide_letter, decide_letters, decided_by, go_on, learned, lowered, on_accepted, on_lower, on_promised, on_tick, on_want, one_tick, promised_to, quiet, tick_leader, tick_pending, told, with_leader}
 use Rattle.agreement_law.specs.Elements.{In, IsIn}
 use Rattle.agreement_law.specs.Invariant.{AreChosen, AreFilled, AreProposed, Global, IsBegun, IsGoodLead, IsGoodLeader, IsGoodOrderer, IsGoodPending, IsGoodPromised, IsGoodProposal, IsTrueMessage}
 use Rattle.agreement_law.proofs.Elements.{got_is_in, in_append, is_in_below}

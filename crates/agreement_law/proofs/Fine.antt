@@ -21,15 +21,17 @@ use Rattle.paxos_model.specs.Learner.{Wish, cut_wish, is_empty, is_left, learn, 
 use Rattle.paxos_model.specs.Majority.{most}
 use Rattle.paxos_model.specs.Votes.{Payload, Promise, Voted, greatest, has_vote, promised, reports, vote_of, votes}
 use Rattle.log_model.specs.Chain.{chain_of, covered_by}
-use Rattle.node_model.specs.Nodes.{letter, orderer_node, to_learners, to_orderers}
+use Rattle.node_table.specs.Numbering.{orderer_node}
+use Rattle.node_model.specs.Messages.{accept_message, accepted_message, decide_message, lower_message, prepare_message, promised_message, want_message}
+use Rattle.node_model.specs.Nodes.{letter, to_learners, to_orderers}
 use Rattle.node_model.specs.OrdererNode.{Change, Orderer}
-use Rattle.node_model.specs.OrdererRow.{accept_answer, accept_message, accepted_for, accepted_message, accepted_to, answered, call_row, counted, decide_letter, decide_letters, decide_message, decided_by, finalises_unknown, go_on, leader_after, learned, lower_message, lowered, message_row, next_letters, on_accept, on_accepted, on_lead, on_least, on_lower, on_prepare, on_promised, on_request, on_settled, on_tick, on_want, one_tick, prepare_answer, prepare_message, promised_message, promised_to, quiet, request_to, row, tick_leader, tick_pending, to_owner, told, want_message, with_leader}
+use Rattle.node_model.specs.OrdererRow.{accept_answer, accepted_for, accepted_to, answered, call_row, counted, decide_letter, decide_letters, decided_by, finalises_unknown, go_on, leader_after, learned, lowered, message_row, next_letters, on_accept, on_accepted, on_lead, on_least, on_lower, on_prepare, on_promised, on_request, on_settled, on_tick, on_want, one_tick, prepare_answer, promised_to, quiet, request_to, row, tick_leader, tick_pending, to_owner, told, with_leader}
 use Rattle.agreement_law.specs.Elements.{In}
 use Rattle.agreement_law.specs.Fine.{AreFine, AreFineLetters, AreFineVotes, IsFineCall, IsFineInput, IsFineLead, IsFineLeader, IsFineMessage, IsFineOrderer, IsFinePayload, IsFinePending}
 use Rattle.agreement_law.proofs.Elements.{got_in, in_append}
 use Rattle.agreement_law.proofs.Greatest.{greatest_from, keep_from, nth-no_votes, reports_from}
 use Rattle.agreement_law.proofs.Moves.{in_to_learners, in_to_orderers}
-use Rattle.agreement_law.proofs.Rows.{ForSome}
+use Rattle.node_model.proofs.Turning.{ForSome}
 
 -- a row: what it puts, what stands after it and what it sends is fine
 pub record IsFineChange (shape : Shape) (F : Value → Type 0) (c : Change) : Type 0 where

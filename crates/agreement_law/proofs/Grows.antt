@@ -6,7 +6,8 @@ use Rattle.message_frame.specs.declared.messages.Vote.{Vote}
 use Rattle.record_frame.specs.declared.values.Value.{Value}
 use Rattle.paxos_model.specs.Leader.{Leader, Pending}
 use Rattle.paxos_model.specs.Votes.{Payload, Promise, Voted, vote_of, promised, votes, reports}
-use Rattle.node_model.specs.OrdererNode.{Orderer, Mode, Stopped, Running, with_put}
+use Rattle.node_model.specs.Marks.{Stopped, Running}
+use Rattle.node_model.specs.OrdererNode.{Orderer, Mode, with_put}
 use Rattle.agreement_law.specs.Elements.{In}
 use Rattle.agreement_law.specs.Invariant.{AreChosen, AreFilled, CanPut, Covers, Global, HasMost, IsGoodLead, IsGoodLeader, IsGoodMode, IsGoodOrderer, IsGoodPending, IsOpenAt, IsPendingSlot, IsReported, IsTrueMessage, IsVotedIn, NoVote}
 use Rattle.agreement_law.proofs.Elements.{in_append, in_left}

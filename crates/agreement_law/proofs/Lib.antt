@@ -16,3 +16,4 @@ pub mod Quorum
 pub mod Rows
 pub mod Step
 pub mod Voting
+pub mod Whole

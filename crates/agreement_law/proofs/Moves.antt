@@ -7,9 +7,12 @@ use Rattle.message_frame.specs.declared.messages.Vote.{Vote}
 use Rattle.paxos_model.specs.Leader.{Advanced, Leader, Next, Nothing, Propose, Window, advance}
 use Rattle.paxos_model.specs.Learner.{wish_of}
 use Rattle.paxos_model.specs.Votes.{Payload}
-use Rattle.node_model.specs.Nodes.{to_nodes, to_orderers, to_learners, orderer_node, before_orderers, storage_nodes}
-use Rattle.node_model.specs.OrdererNode.{Change, Mode, Orderer, Running, with_put}
-use Rattle.node_model.specs.OrdererRow.{accept_message, go_on, next_letters, prepare_message, with_leader}
+use Rattle.node_table.specs.Numbering.{orderer_node}
+use Rattle.node_model.specs.Messages.{accept_message, prepare_message}
+use Rattle.node_model.specs.Marks.{Running}
+use Rattle.node_model.specs.Nodes.{to_nodes, to_orderers, to_learners, before_orderers, storage_nodes}
+use Rattle.node_model.specs.OrdererNode.{Change, Mode, Orderer, with_put}
+use Rattle.node_model.specs.OrdererRow.{go_on, next_letters, with_leader}
 use Rattle.agreement_law.specs.Elements.{In}
 use Rattle.agreement_law.specs.Invariant.{AreChosen, CanPut, Global, IsGoodLeader, IsGoodMode, IsGoodOrderer, IsTrueMessage}
 use Rattle.agreement_law.proofs.Advance.{IsGoodNext, StepKeeps, advance_keeps}

@@ -1,5 +1,5 @@
 -- Every row keeps what holds.
-use Rattle.std.proofs.Common.{◌≡◌, ◌<◌, ℕ, List, [], ◌∷◌, ◌++◌, length, Option, Some, None, refl, subst}
+use Rattle.std.proofs.Common.{◌<◌, ℕ, List, [], ◌∷◌, ◌++◌, length, Option, Some, None, refl}
 use Rattle.std.proofs.lemmas.Bool.{cond_both}
 use Rattle.command_frame.specs.declared.replies.Reply.{Reply, NotLeading, NoSuchShard, Taken as TakenWish}
 use Rattle.history_frame.specs.declared.inputs.Call.{Call}
@@ -15,20 +15,14 @@ use Rattle.record_frame.specs.declared.values.Value.{Value}
 use Rattle.paxos_model.specs.Leader.{Leader}
 use Rattle.paxos_model.specs.Learner.{Wish}
 use Rattle.paxos_model.specs.Votes.{Payload}
-use Rattle.node_model.specs.OrdererNode.{Orderer, Running}
+use Rattle.node_model.specs.Marks.{Running}
+use Rattle.node_model.specs.OrdererNode.{Orderer}
 use Rattle.node_model.specs.OrdererRow.{answered, call_row, finalises_unknown, message_row, on_least, on_request, on_settled, request_to, row}
 use Rattle.agreement_law.specs.Invariant.{IsTrueMessage}
 use Rattle.agreement_law.proofs.Counting.{accepted_keeps, decide_keeps, lower_keeps, promised_keeps, tick_keeps, want_keeps}
+use Rattle.node_model.proofs.Turning.{ForSome}
 use Rattle.agreement_law.proofs.Moves.{Here, RowKeeps, here_grows, same_moves, still_row}
 use Rattle.agreement_law.proofs.Voting.{accept_keeps, lead_keeps, prepare_keeps}
-
--- what holds of a value that may be missing
-abbrev pub ForSome : {A : Type 0} → (A → Type 0) → Option A → Type 0
-ForSome P None = Unit {0}
-ForSome P (Some x) = P x
-
-pub for_some_at : {A : Type 0} (P : A → Type 0) (o : Option A) (x : A) → ForSome P o → o ≡ Some x → P x
-for_some_at P o x h e = subst (λ q. ForSome P q) e h
 
 -- only the lengths that were heard, the wishes and the reply change
 memory_keeps : (n : ℕ) (lists : ℕ → List Payload) (ps : List Vote) (i : ℕ) (o : Orderer) (heard : Lengths) (wishes : List Wish) (reply : Reply) → Here n lists ps i o

@@ -5,27 +5,23 @@ use Rattle.history_frame.specs.declared.events.Event.{Event}
 use Rattle.log_base.specs.ClusterShape.{Shape}
 use Rattle.message_frame.specs.declared.messages.Vote.{Vote}
 use Rattle.paxos_model.specs.Votes.{Payload, promised, votes}
+use Rattle.node_table.specs.Numbering.{orderer_node}
 use Rattle.node_model.specs.Chosen.{decided}
 use Rattle.node_model.specs.Histories.{after_events, durable_after, events_at, orderer_after}
-use Rattle.node_model.specs.Nodes.{orderer_node}
 use Rattle.node_model.specs.OrdererLegal.{IsOrdererLegal}
-use Rattle.node_model.specs.OrdererNode.{Mode, Node, Running, Stopped, at_first}
-use Rattle.node_model.specs.OrdererRow.{flight_of}
+use Rattle.node_model.specs.OrdererNode.{Node, at_first}
 use Rattle.agreement_law.specs.Elements.{In, IsPrefix}
-use Rattle.agreement_law.specs.Invariant.{CanPut, Global, IsGoodMode, IsOpenAt, lists_of}
+use Rattle.agreement_law.specs.Invariant.{Global, IsGoodMode, IsOpenAt, lists_of}
 use Rattle.agreement_law.specs.Statements.{AreLeftBy, Empty, IsFounded, IsKept, IsLeftBy, IsPaxosSound, Later, With, Without}
 use Rattle.agreement_law.proofs.Conclude.{first_list, history_holds, stays_decided}
 use Rattle.agreement_law.proofs.Grows.{Extends, Grow, extends_refl, global_grows, put_extends}
+use Rattle.agreement_law.proofs.Outcomes.{flight_can}
 use Rattle.agreement_law.proofs.Quorum.{most_weaker}
 
-flight_can : (n : ℕ) (lists : ℕ → List Payload) (ps : List Vote) (i : ℕ) (m : Mode) → IsGoodMode n lists ps i m → (p : Payload) → flight_of m ≡ Some p → CanPut (lists i) ps (Some p)
-flight_can n lists ps i (Stopped flight known) h p e = subst (λ f. CanPut (lists i) ps f) e h.0
-flight_can n lists ps i (Running o) h p e = absurd (cc)
-
-left_extends : (n : ℕ) (node : ℕ → Node) (ps : List Vote) (i : ℕ) → IsGoodMode n (lists_of node) ps i (node i).mode → (list : List Payload) → IsLeftBy (node i) list → Extends ps (node i).list list
-left_extends n node ps i h list (Without e) = subst (λ l. Extends ps (node i).list l) (sym e) (extends_refl ps (node i).list)
+left_extends : (n : ℕ) (node : ℕ → Node) (ps : List Vote) (i : ℕ) → IsGoodMode n (lists_of node) ps i (node i).mode → (list : List Payload) → IsLeftBy (node i) list → Extends ps (node i).durable list
+left_extends n node ps i h list (Without e) = subst (λ l. Extends ps (node i).durable l) (sym e) (extends_refl ps (node i).durable)
 left_extends n node ps i h list (With p f e) =
-    subst (λ l. Extends ps (node i).list l) (sym e) (put_extends ps (node i).list (Some p) (flight_can n (lists_of node) ps i (node i).mode h p f))
+    subst (λ l. Extends ps (node i).durable l) (sym e) (put_extends ps (node i).durable (Some p) (flight_can n (lists_of node) ps i (node i).mode h p f))
 
 none_past : (shape : Shape) (kept : ℕ → List Payload) (events : List Event) (j : ℕ) → nat_lt j shape.orderers ≡ false → orderer_after shape kept events j ≡ at_first []
 none_past shape kept events j e = cond-false (nat_lt j shape.orderers) (after_events shape j (at_first (kept j)) (events_at (orderer_node shape j) events)) (at_first []) e
@@ -42,7 +38,7 @@ left_grow shape kept lists events ps modes left j = at (nat_lt j shape.orderers)
         (left_extends shape.orderers (orderer_after shape kept events) ps j (modes j) (lists j) (left j inside))
     at false e =
         subst (λ l. Extends ps (durable_after shape kept events j) l)
-        (ap (λ (nd : Node). nd.list) (none_past shape kept events j e ∙ sym (none_past shape lists [] j e)))
+        (ap (λ (nd : Node). nd.durable) (none_past shape kept events j e ∙ sym (none_past shape lists [] j e)))
         (extends_refl ps (durable_after shape kept events j))
 
 -- lists of which the global part holds are sound

@@ -18,11 +18,11 @@ use Rattle.agreement_law.proofs.Moves.{Moves}
 use Rattle.agreement_law.proofs.Outcomes.{Stepped}
 
 -- only the replaced node's list changed
-pub replaced_grow : (node : ℕ → Node) (ps : List Vote) (i : ℕ) (new : Node) → Extends ps (node i).list new.list → Grow ps (lists_of node) (lists_of (replaced node i new))
+pub replaced_grow : (node : ℕ → Node) (ps : List Vote) (i : ℕ) (new : Node) → Extends ps (node i).durable new.durable → Grow ps (lists_of node) (lists_of (replaced node i new))
 replaced_grow node ps i new e j =
-    cond_both (j == i) new (node j) (λ (nd : Node). Extends ps (node j).list nd.list)
-    (λ t. subst (λ k. Extends ps (node k).list new.list) (sym (eqb-true j i t)) e)
-    (λ t. extends_refl ps (node j).list)
+    cond_both (j == i) new (node j) (λ (nd : Node). Extends ps (node j).durable nd.durable)
+    (λ t. subst (λ k. Extends ps (node k).durable new.durable) (sym (eqb-true j i t)) e)
+    (λ t. extends_refl ps (node j).durable)
 
 replaced_here : (node : ℕ → Node) (i : ℕ) (new : Node) → replaced node i new i ≡ new
 replaced_here node i new = cond-true (i == i) new (node i) (eq-eqb i i refl)
@@ -46,7 +46,7 @@ install n node letters ps i out k s = (
     grow = replaced_grow node ps i out.node s.extends
 
     moved : Moves n (lists_of (replaced node i out.node)) ps i out.node.mode out.outputs
-    moved = s.moves (lists_of (replaced node i out.node)) grow (ap (λ (nd : Node). nd.list) (replaced_here node i out.node))
+    moved = s.moves (lists_of (replaced node i out.node)) grow (ap (λ (nd : Node). nd.durable) (replaced_here node i out.node))
 
     old : (t : Sent) → In t letters → IsTrueMessage n (lists_of (replaced node i out.node)) moved.proposals t.message
     old t a = message_adds n i ps moved.proposals moved.adds (lists_of (replaced node i out.node)) t.message
@@ -60,7 +60,7 @@ install n node letters ps i out k s = (
         let other : j ≡ i → ⊥ = λ same. absurd (let yes : (j == i) ≡ true = eq-eqb j i same in cc) in
         mode_adds n i ps moved.proposals moved.adds (lists_of (replaced node i out.node)) j (node j).mode other
         (mode_grows n ps (lists_of node) (lists_of (replaced node i out.node)) grow j
-        (ap (λ (nd : Node). nd.list) (cond-false (j == i) out.node (node j) e)) (node j).mode (k.modes j))
+        (ap (λ (nd : Node). nd.durable) (cond-false (j == i) out.node (node j) e)) (node j).mode (k.modes j))
 
     modes : (j : ℕ) → IsGoodMode n (lists_of (replaced node i out.node)) moved.proposals j (replaced node i out.node j).mode
     modes j = cond_both (j == i) out.node (node j) (λ (nd : Node). IsGoodMode n (lists_of (replaced node i out.node)) moved.proposals j nd.mode)

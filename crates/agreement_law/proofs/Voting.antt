@@ -9,9 +9,12 @@ use Rattle.paxos_model.specs.Acceptor.{Accepted, Granted, Promised, Refused, Tak
 use Rattle.paxos_model.specs.Leader.{ballot_above, leader_from}
 use Rattle.paxos_model.specs.Votes.{Payload, Promise, Voted, has_vote, promised, reports, vote_of, votes}
 use Rattle.paxos_model.proofs.Ballots.{ballot_above-above, ballot_above-own}
-use Rattle.node_model.specs.Nodes.{letter, orderer_node, to_orderers}
-use Rattle.node_model.specs.OrdererNode.{Change, Orderer, Running}
-use Rattle.node_model.specs.OrdererRow.{accept_answer, accepted_message, lower_message, on_accept, on_lead, on_prepare, prepare_answer, prepare_message, promised_message, quiet, to_owner, told, with_leader}
+use Rattle.node_table.specs.Numbering.{orderer_node}
+use Rattle.node_model.specs.Messages.{accepted_message, lower_message, prepare_message, promised_message}
+use Rattle.node_model.specs.Marks.{Running}
+use Rattle.node_model.specs.Nodes.{letter, to_orderers}
+use Rattle.node_model.specs.OrdererNode.{Change, Orderer}
+use Rattle.node_model.specs.OrdererRow.{accept_answer, on_accept, on_lead, on_prepare, prepare_answer, quiet, to_owner, told, with_leader}
 use Rattle.agreement_law.specs.Elements.{In}
 use Rattle.agreement_law.specs.Invariant.{AreProposed, IsBegun, IsGoodLeader, IsGoodPromised, NoVote}
 use Rattle.agreement_law.proofs.Elements.{in_right}

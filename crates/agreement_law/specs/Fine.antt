@@ -15,7 +15,8 @@ use Rattle.record_frame.specs.declared.values.Value.TheVariants.{Cut}
 use Rattle.paxos_model.specs.Leader.{Leader, Pending}
 use Rattle.paxos_model.specs.Learner.{Wish, raise}
 use Rattle.paxos_model.specs.Votes.{Payload, Promise, Voted, votes}
-use Rattle.node_model.specs.OrdererNode.{Mode, Node, Orderer, Outcome, Running, Stopped}
+use Rattle.node_model.specs.Marks.{Running, Stopped}
+use Rattle.node_model.specs.OrdererNode.{Mode, Node, Orderer, Outcome}
 use Rattle.agreement_law.specs.Elements.{In}
 
 abbrev pub AreFineVotes : (Value → Type 0) → List Vote → Type 0
@@ -53,7 +54,7 @@ IsFineMode F (Stopped flight known) = IsFinePayload F flight × AreFine F known
 IsFineMode F (Running o) = IsFineOrderer F o
 
 pub record IsFineNode (F : Value → Type 0) (node : Node) : Type 0 where
-  pub kept : AreFineVotes F (votes node.list)
+  pub kept : AreFineVotes F (votes node.durable)
   pub mode : IsFineMode F node.mode
 
 -- The values that a message carries. Lengths that are heard are fine where raising by them keeps cuts fine.

@@ -9,7 +9,8 @@ use Rattle.record_frame.specs.declared.values.Value.{Value}
 use Rattle.paxos_model.specs.Leader.{Leader, Pending, is_of_slot}
 use Rattle.paxos_model.specs.Majority.{is_marked}
 use Rattle.paxos_model.specs.Votes.{Payload, Promise, Voted, vote_of, promised, votes, greatest, reports}
-use Rattle.node_model.specs.OrdererNode.{Orderer, Mode, Stopped, Running, Node}
+use Rattle.node_model.specs.Marks.{Stopped, Running}
+use Rattle.node_model.specs.OrdererNode.{Orderer, Mode, Node}
 use Rattle.agreement_law.specs.Elements.{In, IsIn}
 use Rattle.agreement_law.specs.Quorum.{MostOf}
 
@@ -133,7 +134,7 @@ IsGoodMode n lists proposals i (Running o) = IsGoodOrderer n lists proposals i o
 
 -- the durable lists of nodes
 abbrev pub lists_of : (ℕ → Node) → ℕ → List Payload
-lists_of node i = (node i).list
+lists_of node i = (node i).durable
 
 -- the whole: of nodes, all letters that were ever sent, and the proposals
 pub record Keeps (n : ℕ) (node : ℕ → Node) (letters : List Sent) (proposals : List Vote) : Type 0 where

@@ -9,11 +9,11 @@ use Rattle.message_frame.specs.declared.messages.Vote.{Vote}
 use Rattle.record_frame.specs.declared.values.Value.{Value}
 use Rattle.paxos_model.specs.Leader.{Leader}
 use Rattle.paxos_model.specs.Votes.{Payload, promised, reports, vote_of, votes}
+use Rattle.node_model.specs.Marks.{Running, flight_of}
 use Rattle.node_model.specs.Chosen.{IsChosen, decided}
 use Rattle.node_model.specs.Histories.{durable_after, orderer_after, sent_in}
 use Rattle.node_model.specs.OrdererLegal.{IsOrdererLegal}
-use Rattle.node_model.specs.OrdererNode.{Node, Orderer, Running, known_of}
-use Rattle.node_model.specs.OrdererRow.{flight_of}
+use Rattle.node_model.specs.OrdererNode.{Node, Orderer, known_of}
 use Rattle.agreement_law.specs.Elements.{In, IsIn, IsPrefix}
 use Rattle.agreement_law.specs.Invariant.{IsOpen, IsPendingSlot}
 
@@ -92,8 +92,8 @@ pub record IsAgreed (shape : Shape) (kept : ℕ → List Payload) (events : List
 
 -- a disk that a run leaves has the orderer's list, with or without the payload in flight
 pub data IsLeftBy (node : Node) (list : List Payload) : Type 0 where
-  Without : list ≡ node.list → IsLeftBy node list
-  With : (payload : Payload) → flight_of node.mode ≡ Some payload → list ≡ node.list ++ payload ∷ [] → IsLeftBy node list
+  Without : list ≡ node.durable → IsLeftBy node list
+  With : (payload : Payload) → flight_of node.mode ≡ Some payload → list ≡ node.durable ++ payload ∷ [] → IsLeftBy node list
 
 abbrev pub AreLeftBy : Shape → (ℕ → List Payload) → List Event → (ℕ → List Payload) → Type 0
 AreLeftBy shape kept events lists = (i : ℕ) → i < shape.orderers → IsLeftBy (orderer_after shape kept events i) (lists i)

@@ -3,6 +3,7 @@ use Rattle.std.specs.Prelude.{ℕ, zero, suc, ◌+◌, ◌-◌, ◌*◌, List, [
 use Rattle.history_frame.specs.declared.events.Sent.{Sent}
 use Rattle.log_base.specs.ClusterShape.{Shape}
 use Rattle.message_frame.specs.declared.messages.Message.{Message}
+use Rattle.node_table.specs.Numbering.{orderer_node}
 
 -- how many storage nodes there are, and how many nodes stand before the orderers
 abbrev pub storage_nodes : Shape → ℕ
@@ -10,10 +11,6 @@ storage_nodes shape = shape.replicas * shape.shards
 
 abbrev pub before_orderers : Shape → ℕ
 before_orderers shape = storage_nodes shape + shape.gatherers
-
--- the node of an orderer
-abbrev pub orderer_node : Shape → ℕ → ℕ
-orderer_node shape orderer = before_orderers shape + orderer
 
 -- which orderer a node is, if it is one
 abbrev pub orderer_of : Shape → ℕ → Option ℕ

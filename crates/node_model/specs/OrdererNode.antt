@@ -1,13 +1,12 @@
--- An orderer: what it holds in memory while it runs, its durable list, and what stands after its events.
+-- An orderer: what it holds in memory while it runs, and its durable list of promises and votes.
 use Rattle.std.specs.Prelude.{ℕ, ◌*◌, List, [], ◌∷◌, ◌++◌, Option, Some, None}
-use Rattle.command_frame.specs.declared.replies.Reply.{Reply}
-use Rattle.history_frame.specs.declared.events.Sent.{Sent}
 use Rattle.log_base.specs.ClusterShape.{Shape}
 use Rattle.record_frame.specs.declared.values.Lengths.{Lengths}
 use Rattle.record_frame.specs.declared.values.Value.{Value}
 use Rattle.paxos_model.specs.Leader.{Leader}
 use Rattle.paxos_model.specs.Learner.{Wish, nothing_heard}
 use Rattle.paxos_model.specs.Votes.{Payload}
+use Rattle.node_model.specs.Marks.{ChangeOf, Mode as ModeOf, NodeOf, OutcomeOf, Running, Stopped}
 
 -- what a running orderer holds: the known values, the lengths that it heard of, the wishes, how many ticks it
 -- had, and what it knows as a leader
@@ -22,38 +21,29 @@ pub record Orderer : Type 0 where
 abbrev pub fresh : Shape → Orderer
 fresh shape = record { known = []; heard = nothing_heard (shape.shards * shape.replicas); wishes = []; ticks = 0; leader = None }
 
--- A node is down, perhaps with a payload in flight, which may or may not stand in its list when it starts again,
--- and with the values that it knew; or it runs.
-pub data Mode : Type 0 where
-  Stopped : (flight : Option Payload) (known : List Value) → Mode
-  Running : (orderer : Orderer) → Mode
+-- its modes, its nodes, its rows and what its events make
+abbrev pub Mode : Type 0
+Mode = ModeOf Payload (List Value) Orderer
 
-pub record Node : Type 0 where
-  pub list : List Payload
-  pub mode : Mode
+abbrev pub Node : Type 0
+Node = NodeOf (List Payload) Payload (List Value) Orderer
 
--- the values that a node knows
+abbrev pub Change : Type 0
+Change = ChangeOf Payload Orderer
+
+abbrev pub Outcome : Type 0
+Outcome = OutcomeOf (List Payload) Payload (List Value) Orderer
+
+-- the values that an orderer knows
 abbrev pub known_of : Mode → List Value
 known_of (Stopped flight known) = known
 known_of (Running orderer) = orderer.known
 
--- a node at first, with what its disk kept: it is down
+-- an orderer at first, with what its disk kept: it is down
 abbrev pub at_first : List Payload → Node
-at_first kept = record { list = kept; mode = Stopped None [] }
+at_first kept = record { durable = kept; mode = Stopped None [] }
 
--- a row of the rules: what is put into the durable list, if anything, what stands after it, the letters and the reply
-pub record Change : Type 0 where
-  pub put : Option Payload
-  pub after : Orderer
-  pub outputs : List Sent
-  pub reply : Reply
-
--- what an event makes: the node after it, the letters and the reply
-pub record Outcome : Type 0 where
-  pub node : Node
-  pub outputs : List Sent
-  pub reply : Reply
-
+-- the list after a payload is put, if one is
 abbrev pub with_put : List Payload → Option Payload → List Payload
 with_put list None = list
 with_put list (Some payload) = list ++ payload ∷ []

@@ -1,14 +1,12 @@
--- The rule of an orderer: what it does at each input, how a halted disk and a restart turn out, and which
--- outcomes its disk may have.
+-- The rule of an orderer: what it does at each input.
 use Rattle.std.specs.Prelude.{ℕ, zero, suc, ◌*◌, ◌%◌, ◌^◌, length, List, [], ◌∷◌, ◌++◌, Bool, true, false, not, ◌==◌, nat_le, if◌then◌else◌, Option, Some, None, slice_get}
-use Rattle.command_frame.specs.declared.replies.Reply.{Reply, Nothing as Silence, Down, NotLeading, NoSuchShard, Taken as TakenWish, Settled as SettledAt, PendingWish}
+use Rattle.command_frame.specs.declared.replies.Reply.{Reply, Nothing as Silence, NotLeading, NoSuchShard, Taken as TakenWish, Settled as SettledAt, PendingWish}
 use Rattle.history_frame.specs.declared.events.Sent.{Sent}
 use Rattle.history_frame.specs.declared.inputs.Call.{Call}
 use Rattle.history_frame.specs.declared.inputs.Call.TheVariants.{Request, Settled}
 use Rattle.history_frame.specs.declared.inputs.Input.{Input}
 use Rattle.history_frame.specs.declared.inputs.Input.TheVariants.{Deliver, Call as ACall, Tick, Lead, Stop, Restart}
 use Rattle.history_frame.specs.declared.inputs.Mark.{Mark}
-use Rattle.history_frame.specs.declared.inputs.Mark.TheVariants.{Done, Halted, OpenedWithout, OpenedWith, StayedDown}
 use Rattle.log_base.specs.ClusterShape.{Shape}
 use Rattle.log_model.specs.Chain.{chain_of, is_added}
 use Rattle.message_frame.specs.declared.messages.Message.{Message}
@@ -21,30 +19,11 @@ use Rattle.paxos_model.specs.Leader.{Leader, Pending, Advanced, Next, Propose, W
 use Rattle.paxos_model.specs.Learner.{find_value, learn, left_wishes, raise, wish_of}
 use Rattle.paxos_model.specs.Majority.{most}
 use Rattle.paxos_model.specs.Votes.{Payload, Promise, promised}
-use Rattle.node_model.specs.Nodes.{orderer_node, letter, to_orderers, to_learners}
-use Rattle.node_model.specs.OrdererNode.{Orderer, Mode, Stopped, Running, Node, Change, Outcome, fresh, with_put}
-
--- messages of the orderers
-abbrev pub prepare_message : ℕ → ℕ → Message
-prepare_message ballot slot = Prepare (record { 0 = ballot }) (record { 0 = slot })
-
-abbrev pub lower_message : ℕ → ℕ → Message
-lower_message ballot promise = Lower (record { 0 = ballot }) (record { 0 = promise })
-
-abbrev pub promised_message : ℕ → ℕ → ℕ → List Vote → Message
-promised_message ballot slot who votes = Promised (record { 0 = ballot }) (record { 0 = slot }) who votes
-
-abbrev pub accept_message : ℕ → ℕ → Value → Message
-accept_message ballot slot value = Accept (record { 0 = ballot }) (record { 0 = slot }) value
-
-abbrev pub accepted_message : ℕ → ℕ → ℕ → Message
-accepted_message ballot slot who = Accepted (record { 0 = ballot }) (record { 0 = slot }) who
-
-abbrev pub decide_message : ℕ → Value → Message
-decide_message slot value = Decide (record { 0 = slot }) value
-
-abbrev pub want_message : ℕ → ℕ → Message
-want_message slot node = Want (record { 0 = slot }) (record { 0 = node })
+use Rattle.node_table.specs.Numbering.{orderer_node}
+use Rattle.node_model.specs.Marks.{Names, RoleOf, made_by}
+use Rattle.node_model.specs.Messages.{accept_message, accepted_message, decide_message, lower_message, prepare_message, promised_message, want_message}
+use Rattle.node_model.specs.Nodes.{letter, to_orderers, to_learners}
+use Rattle.node_model.specs.OrdererNode.{Orderer, Node, Change, Outcome, fresh}
 
 -- a row that puts, sends and answers nothing: this is its memory afterwards
 abbrev pub quiet : Orderer → Change
@@ -249,82 +228,32 @@ row shape i list o Lead = Some (on_lead shape i list o)
 row shape i list o Stop = None
 row shape i list o Restart = None
 
--- whether an input other than Stop and Restart is for an orderer
-abbrev pub is_orderers : Message → Bool
-is_orderers (Copy segment offset entry) = false
-is_orderers (CopyAck peer held) = false
-is_orderers (Report shard replica lengths) = false
-is_orderers _ = true
+-- the messages and calls for an orderer
+abbrev pub is_message : Message → Bool
+is_message (Copy segment offset entry) = false
+is_message (CopyAck peer held) = false
+is_message (Report shard replica lengths) = false
+is_message _ = true
 
-abbrev pub is_orderers_call : Call → Bool
-is_orderers_call (Request client value) = true
-is_orderers_call (Settled client value from) = true
-is_orderers_call _ = false
+abbrev pub is_call : Call → Bool
+is_call (Request client value) = true
+is_call (Settled client value from) = true
+is_call _ = false
 
--- what stands after an input at a node that is down: a call is told so, and nothing happens
-abbrev pub down_outcome : Node → Input → Option Outcome
-down_outcome node (Deliver place index None) = None
-down_outcome node (Deliver place index (Some message)) =
-    if is_orderers message then Some (record { node = node; outputs = []; reply = Silence }) else None
-down_outcome node (ACall call) =
-    if is_orderers_call call then Some (record { node = node; outputs = []; reply = Down }) else None
-down_outcome node _ = Some (record { node = node; outputs = []; reply = Silence })
+abbrev pub names : Names
+names = record { message = is_message; call = is_call; lead = true }
 
--- what stands after a row, by how its put quiet out: it is stored, or the node goes down with the payload in flight
-abbrev pub halted : List Payload → Orderer → Option Payload → Option Outcome
-halted list o None = None
-halted list o (Some payload) = Some (record { node = record { list = list; mode = Stopped (Some payload) o.known }; outputs = []; reply = Silence })
+-- the role of orderer i
+abbrev pub orderer_role : Shape → ℕ → RoleOf (List Payload) Payload (List Value) Orderer
+orderer_role shape i = record {
+  names = names;
+  has_disks = true;
+  stored = λ list payload. list ++ payload ∷ [];
+  fresh = fresh shape;
+  known = λ o. o.known;
+  row = row shape i;
+}
 
-abbrev pub row_outcome : List Payload → Orderer → Option Change → Mark → Option Outcome
-row_outcome list o None mark = None
-row_outcome list o (Some change) Done = Some (record {
-  node = record { list = with_put list change.put; mode = Running change.after };
-  outputs = change.outputs;
-  reply = change.reply;
-})
-row_outcome list o (Some change) Halted = halted list o change.put
-row_outcome list o (Some change) _ = None
-
--- a node goes down: at a running one nothing is in flight
-abbrev pub stopped : Mode → Mode
-stopped (Stopped flight known) = Stopped flight known
-stopped (Running o) = Stopped None o.known
-
-abbrev pub flight_of : Mode → Option Payload
-flight_of (Stopped flight known) = flight
-flight_of (Running o) = None
-
-abbrev pub as_node : Node → Outcome
-as_node node = record { node = node; outputs = []; reply = Silence }
-
-abbrev pub opened_with : Shape → List Payload → Option Payload → Option Outcome
-opened_with shape list None = None
-opened_with shape list (Some payload) = Some (as_node (record { list = list ++ payload ∷ []; mode = Running (fresh shape) }))
-
-abbrev pub restarted : Shape → Node → Mark → Option Outcome
-restarted shape node OpenedWithout = Some (as_node (record { list = node.list; mode = Running (fresh shape) }))
-restarted shape node OpenedWith = opened_with shape node.list (flight_of node.mode)
-restarted shape node StayedDown = Some (as_node (record { list = node.list; mode = stopped node.mode }))
-restarted shape node _ = None
-
-abbrev pub stop_outcome : Node → Mark → Option Outcome
-stop_outcome node Done = Some (as_node (record { list = node.list; mode = stopped node.mode }))
-stop_outcome node _ = None
-
-abbrev pub down_marked : Node → Input → Mark → Option Outcome
-down_marked node input Done = down_outcome node input
-down_marked node input _ = None
-
-abbrev pub usual_outcome : Shape → ℕ → Node → Mode → Input → Mark → Option Outcome
-usual_outcome shape i node (Stopped flight known) input mark = down_marked node input mark
-usual_outcome shape i node (Running o) input mark = row_outcome node.list o (row shape i node.list o input) mark
-
--- what an event makes of orderer i, from its input and its mark: none where the input is not for it, or the mark
--- is none that this event can have
+-- what an event makes of orderer i
 unfoldable pub outcome : Shape → ℕ → Node → Input → Mark → Option Outcome
-outcome shape i node Stop mark = stop_outcome node mark
-outcome shape i node Restart mark = restarted shape node mark
-outcome shape i node (Deliver place index message) mark = usual_outcome shape i node node.mode (Deliver place index message) mark
-outcome shape i node (ACall call) mark = usual_outcome shape i node node.mode (ACall call) mark
-outcome shape i node Tick mark = usual_outcome shape i node node.mode Tick mark
-outcome shape i node Lead mark = usual_outcome shape i node node.mode Lead mark
+outcome shape i node input mark = made_by (orderer_role shape i) node input mark

@@ -11,9 +11,12 @@ ghost use Rattle.record_frame.specs.declared.values.Value.TheVariants.{Add, Noop
 ghost use Rattle.paxos_model.specs.Leader.{leader_from};
 ghost use Rattle.paxos_model.specs.Votes.{Payload, Promise, Voted, vote_of};
 ghost use Rattle.node_model.specs.Chosen.{decided};
-ghost use Rattle.node_model.specs.Nodes.{letter, orderer_node, orderer_of};
-ghost use Rattle.node_model.specs.OrdererNode.{Node, Outcome, Running, Stopped, at_first, fresh};
-ghost use Rattle.node_model.specs.OrdererRow.{accept_message, accepted_message, lower_message, outcome, prepare_message};
+ghost use Rattle.node_table.specs.Numbering.{orderer_node};
+ghost use Rattle.node_model.specs.Marks.{Running, Stopped};
+ghost use Rattle.node_model.specs.Messages.{accept_message, accepted_message, lower_message, prepare_message};
+ghost use Rattle.node_model.specs.Nodes.{letter, orderer_of};
+ghost use Rattle.node_model.specs.OrdererNode.{Node, Outcome, at_first, fresh};
+ghost use Rattle.node_model.specs.OrdererRow.{outcome};
 
 /// Storage nodes come first, then gatherers, then orderers.
 pub fn nodes_in_order()
@@ -35,9 +38,9 @@ pub fn nothing_while_down()
 pub fn leader_begins()
     ensures { let shape : Shape = record { replicas = 1; shards = 1; orderers = 3; gatherers = 1 } in
         let ask = prepare_message 3 0 in
-        outcome shape 0 (record { list = []; mode = Running (fresh shape) }) Lead Done
+        outcome shape 0 (record { durable = []; mode = Running (fresh shape) }) Lead Done
         ≡ Some (record {
-          node = record { list = Promise 3 ∷ []; mode = Running (record (fresh shape) { leader = Some (leader_from 3 0) }) };
+          node = record { durable = Promise 3 ∷ []; mode = Running (record (fresh shape) { leader = Some (leader_from 3 0) }) };
           outputs = letter 2 ask ∷ letter 3 ask ∷ letter 4 ask ∷ [];
           reply = Nothing;
         }) }
@@ -48,14 +51,14 @@ pub fn leader_begins()
 #[tactic(auto, unfolding(crate::specs::OrdererRow::outcome, crate::specs::OrdererRow::on_accept, paxos_model::specs::Acceptor::accept))]
 pub fn crash_in_a_put()
     ensures halted { (shape : Shape) → let vote = Voted (vote_of 3 0 Noop) in
-        outcome shape 1 (record { list = Promise 3 ∷ []; mode = Running (fresh shape) }) (Deliver 0 0 (Some (accept_message 3 0 Noop))) Halted
-        ≡ Some (record { node = record { list = Promise 3 ∷ []; mode = Stopped (Some vote) [] }; outputs = []; reply = Nothing }) }
+        outcome shape 1 (record { durable = Promise 3 ∷ []; mode = Running (fresh shape) }) (Deliver 0 0 (Some (accept_message 3 0 Noop))) Halted
+        ≡ Some (record { node = record { durable = Promise 3 ∷ []; mode = Stopped (Some vote) [] }; outputs = []; reply = Nothing }) }
     ensures with { (shape : Shape) → let vote = Voted (vote_of 3 0 Noop) in
-        outcome shape 1 (record { list = Promise 3 ∷ []; mode = Stopped (Some vote) [] }) Restart OpenedWith
-        ≡ Some (record { node = record { list = Promise 3 ∷ vote ∷ []; mode = Running (fresh shape) }; outputs = []; reply = Nothing }) }
+        outcome shape 1 (record { durable = Promise 3 ∷ []; mode = Stopped (Some vote) [] }) Restart OpenedWith
+        ≡ Some (record { node = record { durable = Promise 3 ∷ vote ∷ []; mode = Running (fresh shape) }; outputs = []; reply = Nothing }) }
     ensures without { (shape : Shape) → let vote = Voted (vote_of 3 0 Noop) in
-        outcome shape 1 (record { list = Promise 3 ∷ []; mode = Stopped (Some vote) [] }) Restart OpenedWithout
-        ≡ Some (record { node = record { list = Promise 3 ∷ []; mode = Running (fresh shape) }; outputs = []; reply = Nothing }) }
+        outcome shape 1 (record { durable = Promise 3 ∷ []; mode = Stopped (Some vote) [] }) Restart OpenedWithout
+        ≡ Some (record { node = record { durable = Promise 3 ∷ []; mode = Running (fresh shape) }; outputs = []; reply = Nothing }) }
 {}
 
 /// An orderer that promised ballot 5 refuses a vote in 3: it tells the owner of 3 so. Such an input puts
@@ -63,11 +66,11 @@ pub fn crash_in_a_put()
 #[tactic(auto, unfolding(crate::specs::OrdererRow::outcome, crate::specs::OrdererRow::on_accept, paxos_model::specs::Acceptor::accept))]
 pub fn promise_is_kept()
     ensures refused { let shape : Shape = record { replicas = 1; shards = 1; orderers = 3; gatherers = 1 } in
-        let node : Node = record { list = Promise 5 ∷ []; mode = Running (fresh shape) } in
+        let node : Node = record { durable = Promise 5 ∷ []; mode = Running (fresh shape) } in
         outcome shape 1 node (Deliver 0 0 (Some (accept_message 3 0 Noop))) Done
         ≡ Some (record { node = node; outputs = letter 2 (lower_message 3 5) ∷ []; reply = Nothing }) }
     ensures no_halt { let shape : Shape = record { replicas = 1; shards = 1; orderers = 3; gatherers = 1 } in
-        let node : Node = record { list = Promise 5 ∷ []; mode = Running (fresh shape) } in
+        let node : Node = record { durable = Promise 5 ∷ []; mode = Running (fresh shape) } in
         outcome shape 1 node (Deliver 0 0 (Some (accept_message 3 0 Noop))) Halted ≡ None }
 {}
 

@@ -1,0 +1,16 @@
+pub mod Turning
+pub mod Letters
+pub mod Following
+pub mod Others
+pub mod Orderers
+pub mod Lists
+pub mod Keeping
+pub mod Puts
+pub mod Promises
+pub mod Checking
+pub mod OneAppend
+pub mod Sounding
+pub mod Naming
+pub mod Ranges
+pub mod Delivering
+pub mod Breaking
