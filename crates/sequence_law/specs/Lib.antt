@@ -1,0 +1,5 @@
+pub mod Answers
+pub mod Known
+pub mod OneRefusal
+pub mod Pairs
+pub mod Safe
