@@ -1,0 +1,4 @@
+pub mod Due
+pub mod Heard
+pub mod Letters
+pub mod EventSizes

@@ -1,0 +1,8 @@
+//! Whether a gatherer runs.
+
+/// A gatherer is down or runs.
+#[derive(Clone, Copy, Debug, PartialEq, Eq)]
+pub enum Activity {
+    Down,
+    Running,
+}

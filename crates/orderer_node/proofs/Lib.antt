@@ -1,0 +1,11 @@
+pub mod Sending
+pub mod Values
+pub mod Leaders
+pub mod Orderers
+pub mod Rows
+pub mod Covers
+pub mod Following
+pub mod Reporting
+pub mod Outcomes
+pub mod EventSizes
+pub mod Begun

@@ -1,0 +1,10 @@
+use Rattle.std.proofs.Common.{[]}
+use Rattle.storage_node.proofs.Sizes.{ack-length}
+use Rattle.storage_node.proofs.Spaces.{space-first}
+use Rattle.storage_node.proofs.sending.send_ack.Goals as goal
+
+pub send-requires-clause-space : goal.send-requires-clause-space
+send-requires-clause-space c = space-first c.args.letters.now c.args.out.now.rooms _ 6 [] (ack-length c.args.seat.now.own.0 c.args.length) c.requires.space
+
+pub returns-clause-space : goal.returns-clause-space
+returns-clause-space c = λ sizes h. c.send.ensures.space 6 sizes (ack-length c.args.seat.now.own.0 c.args.length) h

@@ -1,0 +1,5 @@
+pub mod StorageState
+pub mod Preparing
+pub mod Replies
+pub mod Opening
+pub mod Turning
