@@ -1,0 +1,9 @@
+use Rattle.std.proofs.Common.{◌≡◌}
+use Rattle.tied_cells.specs.Turns.{HoldsNothing}
+use Rattle.tied_cells.proofs.tests.count_often.Given as goal
+
+abbrev pub invariant-loop : goal.invariant-loop
+invariant-loop l = record {
+  table : l.pass.seat.table_id ≡ l.fn.pass.seat.table_id;
+  free : HoldsNothing l.pass.seat.me;
+}

@@ -1,0 +1,11 @@
+pub mod Boxes
+pub mod Closing
+pub mod History
+pub mod Lending
+pub mod Opening
+pub mod Plays
+pub mod Rule
+pub mod Sizes
+pub mod Turns
+pub mod Views
+pub use Rattle.log_base.specs.Machines
