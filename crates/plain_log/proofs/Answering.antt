@@ -27,10 +27,11 @@ use Rattle.command_frame.specs.declared.replies.Reply.{Found, At}
 use Rattle.command_frame.specs.Items.{IsItem}
 use Rattle.plain_log.specs.Log.{LogState, after, drawn, entries_of, knows, cut_of, next_entry, read_in, reply_to, stored}
 use Rattle.plain_log.proofs.Lists.{found_state, list_within, within_where_some}
-use Rattle.plain_log.proofs.Coherent.{IsCoherent, IsCoherentState, IsUsual, coherent_stored}
+use Rattle.plain_log.specs.Coherent.{IsCoherent, IsCoherentState, IsUsual}
+use Rattle.plain_log.proofs.Coherent.{coherent_stored}
 
 -- A segment of which something is covered is one of the config.
-covered_in_range : (shape : Shape) (chain : ChainState) (segments : List (List Entry)) (s j : ℕ) → IsCoherent shape chain segments
+pub covered_in_range : (shape : Shape) (chain : ChainState) (segments : List (List Entry)) (s j : ℕ) → IsCoherent shape chain segments
     → 0 < covered_of chain s j → (s < shape.shards) × (j < shape.replicas)
 covered_in_range shape chain segments s j is some =
     ⊎_elim
@@ -50,7 +51,7 @@ abbrev pub no_entry : Entry
 no_entry = record { client = record { 0 = 0 }; number = record { 0 = 0 }; bytes = [] }
 
 -- Each place that is spelled has its entry.
-spelled_entry : (shape : Shape) (state : LogState) (place : Place) → IsCoherentState shape state → Contains (spell shape.replicas state.values) place
+pub spelled_entry : (shape : Shape) (state : LogState) (place : Place) → IsCoherentState shape state → Contains (spell shape.replicas state.values) place
     → (entry : Entry) × (entry_at_place shape.replicas state.segments place ≡ Some entry)
 spelled_entry shape state place is spelled =
     let replicas = shape.replicas in
@@ -69,7 +70,7 @@ spelled_entry shape state place is spelled =
     )
 
 -- what is read where an entry stands
-read_where_stands : (shape : Shape) (state : LogState) (position : Position) (entry : Entry) → IsCoherentState shape state
+pub read_where_stands : (shape : Shape) (state : LogState) (position : Position) (entry : Entry) → IsCoherentState shape state
     → position.0 < (chain_of shape.replicas state.values).end
     → entry_at_position shape.replicas state.values state.segments position.0 ≡ Some entry
     → read_in shape.replicas state position ≡ Found position entry
@@ -102,7 +103,7 @@ grown_here shape state s j entry in_range within is =
     get_or-set_same state.segments index (entries_of shape.replicas state s j ++ entry ∷ []) [] inside
 
 -- The entry that is stored stands at a position, which is that of its place.
-stored_position : (shape : Shape) (state : LogState) (s j : ℕ) (entry : Entry) → s < shape.shards → j < shape.replicas
+pub stored_position : (shape : Shape) (state : LogState) (s j : ℕ) (entry : Entry) → s < shape.shards → j < shape.replicas
     → knows shape.replicas state s ≡ true → IsCoherentState shape state
     → let next = stored shape.replicas state s j entry in
     (position : ℕ)

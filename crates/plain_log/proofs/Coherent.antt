@@ -21,20 +21,9 @@ use Rattle.log_model.proofs.States.{state_in-map, state_of_added, state_of_not_a
 use Rattle.command_frame.specs.declared.items.Item.{Item}
 use Rattle.command_frame.specs.declared.items.Item.TheVariants.{Append, Read, Add}
 use Rattle.command_frame.specs.Items.{IsItem}
+use Rattle.plain_log.specs.Coherent.{IsUsual, IsCoherent, IsCoherentState}
 use Rattle.plain_log.specs.Log.{LogState, start, after, state_after, knows, drawn, stored, next_entry, cut_of}
 use Rattle.plain_log.proofs.Lists.{cut_of-at, replicate-nil, grown-at, raised-at, found_state}
-
--- a shard's state where no shard is finalised: it is live, its number is in range, and it has a length for each replica
-abbrev pub IsUsual : Shape → ShardState → Type 0
-IsUsual shape state = (state.standing ≡ Live) × (state.shard < shape.shards) × (length state.covered ≡ shape.replicas)
-
--- each segment has a list, whose length is the segment's covered length, and nothing is given up
-pub record IsCoherent (shape : Shape) (chain : ChainState) (segments : List (List Entry)) : Type 0 where
-  pub shards : All (IsUsual shape) chain.shards
-  pub segments_of_all : length segments ≡ shape.shards * shape.replicas
-  pub covered : (shard segment : ℕ) → shard < shape.shards → segment < shape.replicas
-      → covered_of chain shard segment ≡ length (slice_index_or segments (segment_index shape.replicas shard segment) [])
-  pub mark : chain.mark ≡ 0
 
 pub coherent_start : (shape : Shape) → IsCoherent shape no_values (start shape).segments
 coherent_start shape = record {
@@ -142,10 +131,6 @@ coherent_grown shape chain segments shard segment entry added place is =
           (cases_Bool (is_added chain s));
       mark = is.mark;
     }
-
--- what holds of a state
-abbrev pub IsCoherentState : Shape → LogState → Type 0
-IsCoherentState shape state = IsCoherent shape (chain_of shape.replicas state.values) state.segments
 
 pub coherent_stored : (shape : Shape) (state : LogState) (shard segment : ℕ) (entry : Entry) → knows shape.replicas state shard ≡ true
     → segment < shape.replicas → IsCoherentState shape state → IsCoherentState shape (stored shape.replicas state shard segment entry)

@@ -1,6 +1,6 @@
 -- The log of one thread on a disk that may fail. An append whose put fails is told so, and from then on the replica is
 -- down: appends and reads are refused, and additions go on, since no disk of the replica keeps them.
-use Rattle.std.specs.Prelude.{◌≡◌, ℕ, ◌+◌, List, [], ◌∷◌, ◌++◌, length, take, drop, true, Option, Some, None, option_and_then, slice_get, IfSome, slice_index_or}
+use Rattle.std.specs.Prelude.{◌≡◌, ℕ, ◌+◌, List, [], ◌∷◌, ◌++◌, length, take, drop, Bool, true, false, ◌==◌, ◌&&◌, if◌then◌else◌, Option, Some, None, option_and_then, slice_get, IfSome, slice_index_or}
 use Rattle.log_base.specs.ClusterShape.{Shape}
 use Rattle.record_frame.specs.declared.entries.Entry.{Entry}
 use Rattle.record_frame.specs.declared.values.Value.TheVariants.{Add as AddValue}
@@ -39,6 +39,11 @@ decided_down decided (Append lane shard replica bytes) = decided
 decided_down decided (Read lane shard replica position) = decided
 decided_down decided (Add lane shard) = decided + 1
 
+-- and how many after items
+abbrev pub decided_after : ℕ → List Item → ℕ
+decided_after decided [] = decided
+decided_after decided (item ∷ items) = decided_after (decided_down decided item) items
+
 -- the replies to items, one after another, where the replica is down
 abbrev pub replies_down : ℕ → List Item → List Reply
 replies_down decided [] = []
@@ -72,3 +77,28 @@ entries_with_halt shape run items (Some at) = first_entries (state_before shape 
 abbrev pub entry_in_flight : Shape → ℕ → List Item → Option ℕ → Option Entry
 entry_in_flight shape run items None = None
 entry_in_flight shape run items (Some at) = option_and_then (appended run (state_before shape run items at)) (slice_get items at)
+
+-- how many values are decided after the items where that put failed
+abbrev pub values_with_halt : Shape → ℕ → List Item → Option ℕ → ℕ
+values_with_halt shape run items None = length (state_after shape run (start shape) items).values
+values_with_halt shape run items (Some at) = decided_after (length (state_before shape run items at).values) (drop (at + 1) items)
+
+-- the entries of each segment that are stored where that put failed
+abbrev pub lists_with_halt : Shape → ℕ → List Item → Option ℕ → List (List Entry)
+lists_with_halt shape run items None = (state_after shape run (start shape) items).segments
+lists_with_halt shape run items (Some at) = (state_before shape run items at).segments
+
+-- whether an item appends to this segment of this shard
+abbrev pub is_append_to : ℕ → ℕ → Item → Bool
+is_append_to s j (Append lane shard replica bytes) = (shard.0 == s) && (replica.0 == j)
+is_append_to s j (Read lane shard replica position) = false
+is_append_to s j (Add lane shard) = false
+
+-- the entry that an item appends to this segment of this shard
+abbrev pub appended_to : ℕ → LogState → ℕ → ℕ → Item → Option Entry
+appended_to run state s j item = if is_append_to s j item then appended run state item else None
+
+-- the entry whose put failed, where it was one of this segment of this shard
+abbrev pub failed_entry : Shape → ℕ → List Item → Option ℕ → ℕ → ℕ → Option Entry
+failed_entry shape run items None s j = None
+failed_entry shape run items (Some at) s j = option_and_then (appended_to run (state_before shape run items at) s j) (slice_get items at)

@@ -1,4 +1,5 @@
 pub mod Answering
+pub mod Coherent
 pub mod Halting
 pub mod Log
 pub mod OneSegment

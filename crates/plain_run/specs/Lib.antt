@@ -1,0 +1,8 @@
+pub mod Answered
+pub mod Appending
+pub mod Broken
+pub mod Cluster
+pub mod Moving
+pub mod Reading
+pub mod Settled
+pub mod Tested
