@@ -1,1 +1,2 @@
 pub mod TwoLeaders
+pub mod Roles

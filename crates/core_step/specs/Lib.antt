@@ -1,1 +1,3 @@
 pub mod TwoLeaders
+pub mod Standing
+pub mod Starting

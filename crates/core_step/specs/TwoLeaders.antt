@@ -15,8 +15,8 @@ use Rattle.message_frame.specs.declared.messages.Message.{Message}
 use Rattle.record_frame.specs.declared.values.Value.{Value}
 use Rattle.record_frame.specs.declared.values.Value.TheVariants.{Add}
 use Rattle.paxos_model.specs.Votes.{vote_of}
+use Rattle.node_model.specs.Messages.{accept_message, accepted_message, decide_message, prepare_message, promised_message}
 use Rattle.node_model.specs.Nodes.{letter}
-use Rattle.node_model.specs.OrdererRow.{accept_message, accepted_message, decide_message, prepare_message, promised_message}
 
 -- one storage node, one gatherer, three orderers
 abbrev pub three_orderers : Shape
