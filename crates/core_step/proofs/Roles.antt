@@ -4,6 +4,7 @@ use Rattle.command_frame.specs.declared.replies.Reply.{Reply}
 use Rattle.history_frame.specs.declared.events.Happened.{Happened}
 use Rattle.history_frame.specs.declared.events.Sent.{Sent}
 use Rattle.history_frame.specs.declared.inputs.Input.{Input}
+use Rattle.history_frame.specs.declared.inputs.Mark.{Mark}
 use Rattle.log_base.specs.ClusterShape.{Shape}
 use Rattle.log_model.specs.Storage.{Member}
 use Rattle.node_model.specs.NodeState.{IsRow, NodeOutcome, NodeState, Storing, as_outcome, node_outcome, outcome_as}
@@ -12,11 +13,13 @@ use Rattle.node_table.specs.declared.role.Role.{Role}
 use Rattle.node_table.specs.declared.role.Role.TheVariants.{Storage as StorageRole}
 use Rattle.node_table.specs.Numbering.{role_at}
 use Rattle.segment_journal.specs.Journalled.{Journalled}
+use Rattle.shard_replica.specs.Lists.{Medium}
 use Rattle.shard_replica.specs.Replica.{ReplicaState, lists_of}
 use Rattle.storage_node.specs.declared.node.Mode.{Mode}
 use Rattle.storage_node.specs.StorageState.{StorageState, config_of, member_in, mode_of, node_of as storage_state}
 use Rattle.storage_node.specs.Turning.{IsTurn}
 use Rattle.core_step.specs.declared.part.Part.{Part}
+use Rattle.core_step.specs.Disks.{segment_put, told_mark}
 use Rattle.core_step.specs.Standing.{IsSeated, cluster_of, role_in, role_of, state_of}
 
 -- the outcome of an event as it happened
@@ -71,3 +74,11 @@ storage_turns old new input happened same turn =
         ap (λ (n : StorageNode). Some (outcome_made (Storing n) turn.made.outputs turn.made.reply)) e
         ∙ ap (λ (o : List Sent). Some (outcome_made (Storing now) o turn.made.reply)) (sym turn.outputs)
         ∙ ap (λ (r : Reply). Some (outcome_made (Storing now) happened.outputs r)) (sym turn.reply)
+
+-- what the journals of a part tell is what those of its number tell
+pub part_told : {J P : Type 0} (state : NodeState) (config : Shape) (number : ℕ) (old : Part J P) (media : List Medium) (input : Input) (mark : Mark)
+    → IsSeated config number old → told_mark media (segment_put config (role_at config number) state input) ≡ Some mark
+    → told_mark media (segment_put (cluster_of old) (role_of old) state input) ≡ Some mark
+part_told state config number old media input mark seat tells =
+    subst (λ (r : Role). told_mark media (segment_put (cluster_of old) r state input) ≡ Some mark) seat.role
+    (subst (λ (c : Shape). told_mark media (segment_put c (role_at config number) state input) ≡ Some mark) (sym seat.cluster) tells)

@@ -23,3 +23,6 @@ pub use sequence_law::{
     one_decided_list, one_refusal_is_legal, pairs_stand_once, pending_is_unknown, reads_agree,
     refused_nowhere, sequence_stays,
 };
+
+#[cfg(test)]
+mod tests;

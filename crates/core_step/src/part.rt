@@ -1,13 +1,18 @@
 //! What a node does in its cluster, by its role.
 
-ghost use Rattle.std.specs.Prelude.{◌≡◌, ◌≤◌, ◌++◌, length, map, Some, OnOk};
+ghost use Rattle.std.specs.Prelude.{◌≡◌, ◌≢◌, ℕ, ◌≤◌, ◌++◌, length, map, Some, OnOk};
+ghost use Rattle.history_frame.specs.declared.inputs.Input.TheVariants.{Restart};
+ghost use Rattle.history_frame.specs.declared.inputs.Mark.{Mark};
+ghost use Rattle.history_frame.specs.declared.inputs.Mark.TheVariants.{Halted, StayedDown};
 ghost use Rattle.history_frame.specs.Spelling.{event_size};
 ghost use Rattle.node_model.specs.Fits.{Fits};
 ghost use Rattle.node_model.specs.Machine.{posted};
-ghost use Rattle.node_model.specs.NodeState.{Storing, outcome_as};
-ghost use Rattle.storage_node.specs.Preparing.{IsReady};
-ghost use Rattle.storage_node.specs.StorageState.{config_of, node_of};
-ghost use Rattle.core_step.specs.Standing.{IsReadyFor, cluster_of, role_in, role_of, state_of};
+ghost use Rattle.node_model.specs.NodeState.{outcome_as};
+ghost use Rattle.shard_replica.specs.Lists.{medium_at};
+ghost use Rattle.storage_node.specs.Counting.{CountsOn};
+ghost use Rattle.storage_node.specs.Opening.{RoseIn};
+ghost use Rattle.core_step.specs.Disks.{IsStarting, media_in, segment_put, start_mark, told_mark};
+ghost use Rattle.core_step.specs.Standing.{IsReadyFor, cluster_of, role_of, state_of};
 
 use cut_chain::Places;
 use gatherer_node::GathererNode;
@@ -16,6 +21,16 @@ use log_base::{Memory, Outbox};
 use orderer_node::OrdererNode;
 use segment_journal::Journal;
 use storage_node::StorageNode;
+
+mod disks;
+mod gatherer;
+mod orderer;
+mod replica;
+mod telling;
+
+use gatherer::{ready_gatherer, step_gatherer};
+use orderer::{ready_orderer, step_orderer};
+use replica::{ready_replica, step_replica};
 
 /// A node of one of the three roles.
 #[derive(Drop)]
@@ -34,11 +49,16 @@ impl<J: Journal, P: Places> Part<J, P> {
         ensures same { state_of J.state self.new ≡ state_of J.state self.old }
         ensures letters { out.new.letters ≡ out.old.letters }
         ensures ready { OnOk result (IsReadyFor J.state self.new input.now out.new) }
+        ensures counts { CountsOn (media_in J.state J.faults J.keeps_synced J.turns self.old) (media_in J.state J.faults J.keeps_synced J.turns self.new) }
+        ensures turns { input.now ≢ Restart → (k : ℕ) → (medium_at (media_in J.state J.faults J.keeps_synced J.turns self.new) k).turns
+            ≡ (medium_at (media_in J.state J.faults J.keeps_synced J.turns self.old) k).turns }
+        ensures opening { input.now ≡ Restart → OnOk result (IsStarting
+            (media_in J.state J.faults J.keeps_synced J.turns self.old) (media_in J.state J.faults J.keeps_synced J.turns self.new) (start_mark J.state self.new)) }
     {
         match self {
             Part::Storage(node) => ready_replica(node, input, out),
-            Part::Gatherer(node) => node.ready(input, out),
-            Part::Orderer(node) => node.ready(input, out),
+            Part::Gatherer(node) => ready_gatherer(node, input, out),
+            Part::Orderer(node) => ready_orderer(node, input, out),
         }
     }
 
@@ -54,47 +74,18 @@ impl<J: Journal, P: Places> Part<J, P> {
         ensures letters { out.new.letters ≡ out.old.letters ++ map posted result.outputs }
         ensures few { length result.outputs ≤ 255 }
         ensures size { event_size result ≤ 2097152 }
+        ensures halted { result.mark ≡ Halted → RoseIn (media_in J.state J.faults J.keeps_synced J.turns self.old) (media_in J.state J.faults J.keeps_synced J.turns self.new) }
+        ensures counts { CountsOn (media_in J.state J.faults J.keeps_synced J.turns self.old) (media_in J.state J.faults J.keeps_synced J.turns self.new) }
+        ensures told { input ≢ Restart → (mark : Mark)
+            → told_mark (media_in J.state J.faults J.keeps_synced J.turns self.old) (segment_put (cluster_of self.old) (role_of self.old) (state_of J.state self.old) input) ≡ Some mark
+            → result.mark ≡ mark }
+        ensures opened { input ≡ Restart → start_mark J.state self.old ≡ Some result.mark }
+        ensures stayed { result.mark ≡ StayedDown → input ≡ Restart }
     {
         match self {
             Part::Storage(node) => step_replica(node, input, out),
-            Part::Gatherer(node) => node.step(input, out),
-            Part::Orderer(node) => node.step(input, out),
+            Part::Gatherer(node) => step_gatherer(node, input, out),
+            Part::Orderer(node) => step_orderer(node, input, out),
         }
     }
-}
-
-/// A replica makes the memory for an event.
-fn ready_replica<J: Journal, P: Places>(
-    node: &mut StorageNode<J, P>,
-    input: &Input,
-    out: &mut Outbox,
-) -> Result<(), Memory>
-    requires { Fits (config_of node.old) (role_in node.old) (Storing (node_of node.old)) input.now }
-    ensures cluster { config_of node.new ≡ config_of node.old }
-    ensures role { role_in node.new ≡ role_in node.old }
-    ensures same { node_of node.new ≡ node_of node.old }
-    ensures letters { out.new.letters ≡ out.old.letters }
-    ensures ready { OnOk result (IsReady node.new input.now out.new) }
-{
-    node.ready(input, out)
-}
-
-/// One event of a replica.
-fn step_replica<J: Journal, P: Places>(
-    node: &mut StorageNode<J, P>,
-    input: Input,
-    out: &mut Outbox,
-) -> Happened
-    requires fits { Fits (config_of node.old) (role_in node.old) (Storing (node_of node.old)) input }
-    requires ready { IsReady node.old input out.old }
-    ensures cluster { config_of node.new ≡ config_of node.old }
-    ensures role { role_in node.new ≡ role_in node.old }
-    ensures input { result.input ≡ input }
-    ensures row { outcome_as (config_of node.old) (role_in node.old) (Storing (node_of node.old)) result.input result.mark
-        ≡ Some (record { state = Storing (node_of node.new); outputs = result.outputs; reply = result.reply }) }
-    ensures letters { out.new.letters ≡ out.old.letters ++ map posted result.outputs }
-    ensures few { length result.outputs ≤ 255 }
-    ensures size { event_size result ≤ 2097152 }
-{
-    node.step(input, out)
 }

@@ -5,3 +5,4 @@ pub mod Ordering
 pub mod Deciding
 pub mod Wishing
 pub mod Answering
+pub mod Tested

@@ -1,6 +1,7 @@
 //! The node of an orderer.
 
 ghost use Rattle.std.specs.Prelude.{◌≡◌, ◌≢◌, ◌<◌, ◌≤◌, ◌++◌, [], ℕ, length, map, Some, None, IfOk, IfErr, OnOk};
+ghost use Rattle.std.specs.List.{AllByRecursion};
 ghost use Rattle.std.specs.Option.{option_map};
 ghost use Rattle.log_base.specs.Shape.{shape};
 ghost use Rattle.log_base.specs.Outside.{Rose};
@@ -13,11 +14,12 @@ ghost use Rattle.node_model.specs.NodeState.{Ordering as OrderingState};
 ghost use Rattle.node_model.specs.OrdererNode.{fresh};
 ghost use Rattle.node_model.specs.OrdererRow.{outcome};
 ghost use Rattle.node_table.specs.declared.role.Role.TheVariants.{Orderer as OrdererRole};
-ghost use Rattle.paxos_acceptor.specs.Listed.{bad_offset};
-ghost use Rattle.segment_journal.specs.Journalled.{planned};
+ghost use Rattle.paxos_acceptor.specs.Listed.{bad_offset, list_of};
+ghost use Rattle.paxos_model.specs.Payloads.{IsPayload};
+ghost use Rattle.segment_journal.specs.Journalled.{AllPayloads, planned};
 ghost use Rattle.orderer_node.specs.Announcing.{AreSmall};
 ghost use Rattle.orderer_node.specs.Answering.{IsOwn};
-ghost use Rattle.orderer_node.specs.Ordering.{IsCaused, IsReopened, IsFlight, IsReadBy, IsReady, IsReadyWith, MarkFollows, is_down, node_of, opening_mark, put_at};
+ghost use Rattle.orderer_node.specs.Ordering.{IsCaused, IsReopened, IsFlight, IsReadBy, IsReady, IsReadyWith, MarkFollows, RunsAs, is_down, node_of, opening_mark, put_at};
 
 use crate::memory::OrdererMemory;
 use crate::node::restart::sleep;
@@ -160,7 +162,11 @@ impl<J: Journal, P: Places> OrdererNode<J, P> {
 
     /// Gives the journal back.
     pub fn into_journal(self) -> J
-        ensures { result ≡ self.journal }
+        ensures journal { result ≡ self.journal }
+        ensures list { AllByRecursion IsPayload (list_of (J.state result)) }
+        ensures payloads { AllPayloads (J.state result).payloads }
+        ensures flight { IsFlight (J.state result).flight }
+        ensures runs { RunsAs self.standing (J.state result) }
     {
         let OrdererNode {
             alloc: _alloc,
@@ -171,7 +177,9 @@ impl<J: Journal, P: Places> OrdererNode<J, P> {
             letters: _letters,
             votes: _votes,
         } = self;
-        acceptor.into_journal()
+        let journal = acceptor.into_journal();
+        let _length = journal.len();
+        journal
     }
 
     /// Hands a plan to the journal. The state stays.
@@ -183,6 +191,7 @@ impl<J: Journal, P: Places> OrdererNode<J, P> {
         ensures faults { J.faults self.new.journal ≡ J.faults self.old.journal }
         ensures keeps { J.keeps_synced self.new.journal ≡ J.keeps_synced self.old.journal }
         ensures turns { J.turns self.new.journal ≡ planned (J.state self.old.journal).flight plan (J.turns self.old.journal) }
+        ensures runs { RunsAs self.old.standing (J.state self.old.journal) }
     {
         self.acceptor.plan(plan);
     }

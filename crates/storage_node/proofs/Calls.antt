@@ -33,6 +33,7 @@ use Rattle.storage_node.specs.declared.turn.Turn.{Turn}
 use Rattle.storage_node.specs.Replies.{reply_so, reply_to_asked, reply_to_submitted}
 use Rattle.storage_node.specs.StorageState.{StorageState, lists_in, member_in, memory_of, mode_of}
 use Rattle.storage_node.specs.Turning.{IsSmall, TurnsOut}
+use Rattle.storage_node.proofs.Counting.{counts-same}
 use Rattle.storage_node.proofs.Rows.{as_node, turns-done}
 
 -- a short reply and no letter
@@ -87,6 +88,7 @@ turns-asked node client number answer turn running within is mark outputs reply 
     turns-done node node (ACall (Ask client number)) (on_ask (member_in node) (lists_in node) (memory_of node.replica.state node.ticks) client.0 number.0) turn running refl mark
     (ap (λ (m : Mode). as_node (lists_in node) (mode_of m node.replica.state node.ticks)) running)
     outputs (reply ∙ asked-reply answer _ so) refl refl (reply-small turn.outputs turn.reply (reply_to_asked answer) outputs reply (asked-short answer)) tt
+    (counts-same node.replica.media node.replica.media refl)
 
 -- a read
 pub turns-looked : (node new : StorageState) (client : Client) (position : Position) (turn : Turn) → node.mode ≡ Running → new.mode ≡ Running
@@ -100,6 +102,7 @@ turns-looked node new client position turn running runs replica ticks mark outpu
     ∙ ap (λ (r : Replicated). as_node (lists_of r.state) (mode_of Running r.state new.ticks)) replica
     ∙ ap (λ (n : ℕ). as_node (lists_in node) (mode_of Running node.replica.state n)) ticks)
     outputs reply (ap (λ (r : Replicated). r.state.config) replica) (ap (λ (r : Replicated). member_of r.state) replica) (reply-small turn.outputs turn.reply turn.reply outputs refl short) tt
+    (counts-same node.replica.media new.replica.media (ap (λ (r : Replicated). r.media) replica))
 
 -- what is read
 pub looked-reply : (position : Position) (answer : ReadAnswer) (so : ReadSo) → TellsRead answer so → reply_so position answer ≡ read_reply position.0 so

@@ -16,3 +16,5 @@ pub mod Telling
 pub mod Taking
 pub mod Sleeping
 pub mod EventSizes
+pub mod Counting
+pub mod Loaded

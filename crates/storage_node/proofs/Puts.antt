@@ -34,6 +34,7 @@ use Rattle.storage_node.specs.Opening.{RoseIn}
 use Rattle.storage_node.specs.Replies.{reply_to_submitted}
 use Rattle.storage_node.specs.StorageState.{IsAtRest, IsFew, IsOf, IsSound, IsStorage, StorageState, config_of, lists_in, member_in, memory_of, mode_of}
 use Rattle.storage_node.specs.Turning.{IsSmall, IsTold, TurnsOut, put_mark}
+use Rattle.storage_node.proofs.Counting.{counts-put}
 use Rattle.storage_node.proofs.Calls.{own-list, reply-small, submitted-reply, submitted-short}
 use Rattle.storage_node.proofs.Elements.{all-at}
 use Rattle.storage_node.proofs.Putting.{flight-put, lists-kept, lists-stored, sound-failed, sound-stored}
@@ -95,6 +96,7 @@ put-done old new input change turn segment put running r puts after lt state run
     (ap (λ (s : ReplicaState). member_of s) state ∙ same-member old.replica.state segment put false)
     small
     (subst (λ (o : Option Put). IsTold old Done o) (sym puts) (told-done old segment put new.replica.media media))
+    (counts-put put segment false old.replica.media new.replica.media media)
 
 -- a row that puts an entry halts
 pub put-halted : (old new : StorageState) (input : Input) (change : StorageChange) (turn : Turn) (segment : ℕ) (entry : Entry) → old.mode ≡ Running
@@ -113,6 +115,7 @@ put-halted old new input change turn segment entry running r puts rest lt state 
     outputs reply (ap (λ (s : ReplicaState). s.config) state) (ap (λ (s : ReplicaState). member_of s) state) small
     (put-rose segment old.replica.media new.replica.media media)
     (put-told old segment entry true new.replica.media media)
+    (counts-put (Some entry) segment true old.replica.media new.replica.media media)
 
 -- what stays true
 of-put : (config : Shape) (shard own : ℕ) (state : ReplicaState) (segment : ℕ) (put : Option Entry) (failed : Bool) → IsOf config shard own state

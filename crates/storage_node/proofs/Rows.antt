@@ -14,6 +14,7 @@ use Rattle.record_frame.specs.declared.entries.Entry.{Entry}
 use Rattle.storage_node.specs.declared.node.Mode.{Mode}
 use Rattle.storage_node.specs.declared.node.Mode.TheVariants.{Running}
 use Rattle.storage_node.specs.declared.turn.Turn.{Turn}
+use Rattle.storage_node.specs.Counting.{CountsOn}
 use Rattle.storage_node.specs.Opening.{RoseIn}
 use Rattle.storage_node.specs.StorageState.{StorageState, config_of, lists_in, member_in, memory_of, mode_of, node_of}
 use Rattle.storage_node.specs.Turning.{IsSmall, IsTold, TurnsOut, put_at, put_by, put_in}
@@ -90,8 +91,8 @@ pub turns-done : (old new : StorageState) (input : Input) (change : StorageChang
     → row (config_of old) (member_in old) (lists_in old) (memory_of old.replica.state old.ticks) input ≡ Some change
     → turn.mark ≡ Done → node_of new ≡ (after_row (config_of old) (member_in old) (node_of old) change).node
     → turn.outputs ≡ change.outputs → turn.reply ≡ change.reply → config_of new ≡ config_of old → member_in new ≡ member_in old
-    → IsSmall turn.outputs turn.reply → IsTold old Done change.put → TurnsOut old input turn new
-turns-done old new input change turn running r mark node outputs reply config member small told =
+    → IsSmall turn.outputs turn.reply → IsTold old Done change.put → CountsOn old.replica.media new.replica.media → TurnsOut old input turn new
+turns-done old new input change turn running r mark node outputs reply config member small told counts =
     let rule = done (config_of old) (member_in old) (node_of old) input (memory_of old.replica.state old.ticks) change (runs old running) r in
     record {
       row = record {
@@ -105,6 +106,7 @@ turns-done old new input change turn running r mark node outputs reply config me
       };
       small = small;
       halted = λ other. let wrong : Done ≡ Halted = sym mark ∙ other in absurd (cc);
+      counts = counts;
       told = subst (λ (m : Mark). IsTold old m (put_at old input)) (sym mark) (subst (λ (o : Option Put). IsTold old Done o) (sym (put-of-row old input change running r)) told);
       opened = λ start. absurd (no_start (config_of old) (member_in old) (node_of old) input (memory_of old.replica.state old.ticks) change r start);
       stayed = λ other. absurd (not_stayed turn.mark mark other);
@@ -118,8 +120,9 @@ pub turns-halted : (old new : StorageState) (input : Input) (change : StorageCha
     → row (config_of old) (member_in old) (lists_in old) (memory_of old.replica.state old.ticks) input ≡ Some change → change.put ≡ Some put
     → turn.mark ≡ Halted → node_of new ≡ (after_halt (node_of old) (memory_of old.replica.state old.ticks) input put).node
     → turn.outputs ≡ [] → turn.reply ≡ to_call input DiskFailed → config_of new ≡ config_of old → member_in new ≡ member_in old
-    → IsSmall turn.outputs turn.reply → RoseIn old.replica.media new.replica.media → IsTold old Halted (Some put) → TurnsOut old input turn new
-turns-halted old new input change put turn running r p mark node outputs reply config member small rose told =
+    → IsSmall turn.outputs turn.reply → RoseIn old.replica.media new.replica.media → IsTold old Halted (Some put) → CountsOn old.replica.media new.replica.media
+    → TurnsOut old input turn new
+turns-halted old new input change put turn running r p mark node outputs reply config member small rose told counts =
     let rule = fell (config_of old) (member_in old) (node_of old) input (memory_of old.replica.state old.ticks) change put (runs old running) r p in
     record {
       row = record {
@@ -133,6 +136,7 @@ turns-halted old new input change put turn running r p mark node outputs reply c
       };
       small = small;
       halted = λ _. rose;
+      counts = counts;
       told = subst (λ (m : Mark). IsTold old m (put_at old input)) (sym mark) (subst (λ (o : Option Put). IsTold old Halted o) (sym (put-of-row old input change running r ∙ p)) told);
       opened = λ start. absurd (no_start (config_of old) (member_in old) (node_of old) input (memory_of old.replica.state old.ticks) change r start);
       stayed = λ other. absurd (not_stayed turn.mark mark other);

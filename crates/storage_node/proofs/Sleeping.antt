@@ -15,6 +15,7 @@ use Rattle.storage_node.specs.declared.node.Mode.TheVariants.{Down}
 use Rattle.storage_node.specs.declared.turn.Turn.{Turn}
 use Rattle.storage_node.specs.StorageState.{StorageState, config_of, member_in, mode_of, node_of}
 use Rattle.storage_node.specs.Turning.{IsSmall, IsTold, TurnsOut, put_in}
+use Rattle.storage_node.proofs.Counting.{counts-same}
 
 abbrev perhaps : Bool → StorageOutcome → Option StorageOutcome
 perhaps b made = cond b (Some made) None
@@ -58,6 +59,7 @@ turns-slept node input turn down named start stop mark outputs reply = record {
   };
   small = subst (λ (l : List Sent). IsSmall l turn.reply) (sym outputs) (subst (λ (r : Reply). IsSmall [] r) (sym reply) (record { few = omega arith; letters = tt; reply = short-answer input }));
   halted = λ other. let wrong : Done ≡ Halted = sym mark ∙ other in absurd (cc);
+  counts = counts-same node.replica.media node.replica.media refl;
   told = subst (λ (o : Option Put). IsTold node turn.mark o) (sym (ap (λ (m : Mode). put_in node input (mode_of m node.replica.state node.ticks)) down)) tt;
   opened = λ e. absurd (start e);
   stayed = λ other. let wrong : Done ≡ StayedDown = sym mark ∙ other in absurd (cc);

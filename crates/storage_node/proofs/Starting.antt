@@ -23,6 +23,7 @@ use Rattle.storage_node.specs.declared.node.Mode.{Mode}
 use Rattle.storage_node.specs.declared.node.Mode.TheVariants.{Down, Running}
 use Rattle.storage_node.specs.declared.turn.Turn.{Turn}
 use Rattle.storage_node.specs.Opening.{mark_after, opening_mark}
+use Rattle.storage_node.specs.Counting.{CountsOn}
 use Rattle.storage_node.specs.Preparing.{AreRead, IsReloaded}
 use Rattle.storage_node.specs.StorageState.{IsAtRest, IsOf, IsSound, IsStorage, RestsIn, StorageState, config_of, lists_in, member_in, mode_of, node_of}
 use Rattle.storage_node.specs.Turning.{IsSmall, IsTold, TurnsOut, put_in}
@@ -63,9 +64,9 @@ down-node old new sound state mode =
 
 -- a stop
 pub turns-stopped : (old new : StorageState) (turn : Turn) → IsSound old.mode old.replica.state → new.replica.state ≡ old.replica.state → new.mode ≡ Down
-    → turn.mark ≡ Done → turn.outputs ≡ [] → turn.reply ≡ Nothing → TurnsOut old Stop turn new
+    → CountsOn old.replica.media new.replica.media → turn.mark ≡ Done → turn.outputs ≡ [] → turn.reply ≡ Nothing → TurnsOut old Stop turn new
 unfolding outcome
-turns-stopped old new turn sound state mode mark outputs reply =
+turns-stopped old new turn sound state mode counts mark outputs reply =
     record {
       row = record {
         made = as_stopped (storage_role (config_of old) (member_in old)) (node_of old);
@@ -78,6 +79,7 @@ turns-stopped old new turn sound state mode mark outputs reply =
       };
       small = silent-small turn.outputs turn.reply outputs reply;
       halted = λ other. let wrong : Done ≡ Halted = sym mark ∙ other in absurd (cc);
+      counts = counts;
       told = nothing-told old turn.mark (node_of old).mode Stop (stop-puts-nothing old (node_of old).mode);
       opened = λ start. absurd (cc);
       stayed = λ other. let wrong : Done ≡ StayedDown = sym mark ∙ other in absurd (cc);
@@ -85,10 +87,10 @@ turns-stopped old new turn sound state mode mark outputs reply =
 
 -- a start that a list could not be read for
 pub turns-stayed : (old new : StorageState) (turn : Turn) → IsSound old.mode old.replica.state → answer_of old.replica.last_reload old.replica.media ≡ Failed
-    → new.replica.state ≡ old.replica.state → new.mode ≡ Down
+    → new.replica.state ≡ old.replica.state → new.mode ≡ Down → CountsOn old.replica.media new.replica.media
     → turn.mark ≡ StayedDown → turn.outputs ≡ [] → turn.reply ≡ Nothing → TurnsOut old Restart turn new
 unfolding outcome
-turns-stayed old new turn sound answer state mode mark outputs reply =
+turns-stayed old new turn sound answer state mode counts mark outputs reply =
     record {
       row = record {
         made = as_stopped (storage_role (config_of old) (member_in old)) (node_of old);
@@ -101,6 +103,7 @@ turns-stayed old new turn sound answer state mode mark outputs reply =
       };
       small = silent-small turn.outputs turn.reply outputs reply;
       halted = λ other. let wrong : StayedDown ≡ Halted = sym mark ∙ other in absurd (cc);
+      counts = counts;
       told = nothing-told old turn.mark (node_of old).mode Restart (restart-puts-nothing old (node_of old).mode);
       opened = λ _. mark ∙ ap opening_mark (sym answer);
       stayed = λ _. refl;
@@ -148,8 +151,8 @@ opening-usual false e = cc
 turns-read : (old new : StorageState) (turn : Turn) → IsSound old.mode old.replica.state → AreRead old.replica.state.segments old.replica.media
     → old.replica.last_reload ≡ Some WasRead
     → new.replica.state ≡ at_first (config_of old) old.replica.state.shard old.replica.state.own (reopened_all old.replica.state.segments old.replica.media)
-    → new.mode ≡ Running → new.ticks ≡ 0 → turn.mark ≡ opening_mark (came_to old.replica.media) → turn.outputs ≡ [] → turn.reply ≡ Nothing → TurnsOut old Restart turn new
-turns-read old new turn sound read last state mode ticks mark outputs reply =
+    → new.mode ≡ Running → new.ticks ≡ 0 → CountsOn old.replica.media new.replica.media → turn.mark ≡ opening_mark (came_to old.replica.media) → turn.outputs ≡ [] → turn.reply ≡ Nothing → TurnsOut old Restart turn new
+turns-read old new turn sound read last state mode ticks counts mark outputs reply =
     let first = at_first (config_of old) old.replica.state.shard old.replica.state.own (reopened_all old.replica.state.segments old.replica.media) in
     let rule = opens old (list_any has_one_more old.replica.media) refl sound read in
     record {
@@ -166,6 +169,7 @@ turns-read old new turn sound read last state mode ticks mark outputs reply =
       };
       small = silent-small turn.outputs turn.reply outputs reply;
       halted = λ other. absurd (opening-usual (list_any has_one_more old.replica.media) (sym mark ∙ other));
+      counts = counts;
       told = nothing-told old turn.mark (node_of old).mode Restart (restart-puts-nothing old (node_of old).mode);
       opened = λ _. mark ∙ ap (λ (l : Option LastReload). mark_after l old.replica.media) (sym last);
       stayed = λ _. refl;
@@ -181,12 +185,12 @@ was-read replica (Some WasRead) reloaded good = (refl, reloaded)
 pub turns-opened : (old new : StorageState) (turn : Turn) (answer : Installed) → IsSound old.mode old.replica.state → IsReloaded old.replica.last_reload old.replica
     → answer ≡ answer_of old.replica.last_reload old.replica.media → answer ≢ Failed
     → new.replica.state ≡ state_after old.replica.last_reload old.replica.state old.replica.media
-    → new.mode ≡ Running → new.ticks ≡ 0 → turn.mark ≡ opening_mark answer → turn.outputs ≡ [] → turn.reply ≡ Nothing → TurnsOut old Restart turn new
-turns-opened old new turn answer sound reloaded is good state mode ticks mark outputs reply =
+    → new.mode ≡ Running → new.ticks ≡ 0 → CountsOn old.replica.media new.replica.media → turn.mark ≡ opening_mark answer → turn.outputs ≡ [] → turn.reply ≡ Nothing → TurnsOut old Restart turn new
+turns-opened old new turn answer sound reloaded is good state mode ticks counts mark outputs reply =
     let read = was-read old.replica old.replica.last_reload reloaded (subst (λ (a : Installed). a ≢ Failed) is good) in
     turns-read old new turn sound read.1 read.0
     (state ∙ ap (λ (l : Option LastReload). state_after l old.replica.state old.replica.media) read.0)
-    mode ticks (mark ∙ ap opening_mark (is ∙ ap (λ (l : Option LastReload). answer_of l old.replica.media) read.0)) outputs reply
+    mode ticks counts (mark ∙ ap opening_mark (is ∙ ap (λ (l : Option LastReload). answer_of l old.replica.media) read.0)) outputs reply
 
 pub sound-opened : (mode : Mode) (replica : Replicated) (answer : Installed) → IsSound mode replica.state → IsReloaded replica.last_reload replica
     → answer ≡ answer_of replica.last_reload replica.media → answer ≢ Failed

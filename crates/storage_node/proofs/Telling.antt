@@ -31,6 +31,7 @@ use Rattle.storage_node.specs.declared.turn.Turn.{Turn}
 use Rattle.storage_node.specs.Preparing.{IsLetter, copies_for, copies_for_message}
 use Rattle.storage_node.specs.StorageState.{IsFew, IsOf, IsSound, StorageState, config_of, lists_in, member_in, memory_of, mode_of}
 use Rattle.storage_node.specs.Turning.{TurnsOut}
+use Rattle.storage_node.proofs.Counting.{counts-same}
 use Rattle.storage_node.proofs.Elements.{all-at}
 use Rattle.storage_node.proofs.Rows.{as_node, turns-done}
 
@@ -126,11 +127,11 @@ length-windows config member own copying peer (suc count) =
 
 -- a peer says how much it holds
 pub turns-copied : (old new : StorageState) (place index : ℕ) (peer : Peer) (held : ℕ) (turn : Turn) → old.mode ≡ Running → new.mode ≡ Running → new.ticks ≡ old.ticks
-    → new.replica.state ≡ record old.replica.state { copying = after_note old.replica.state.copying peer.0 held }
+    → new.replica.state ≡ record old.replica.state { copying = after_note old.replica.state.copying peer.0 held } → new.replica.media ≡ old.replica.media
     → old.copies ≡ copies_for_message old (CopyAck peer held) → AllByRecursion IsLetter old.copies
     → turn.mark ≡ Done → turn.outputs ≡ old.copies → turn.reply ≡ Nothing → TurnsOut old (Deliver place index (Some (CopyAck peer held))) turn new
 unfolding on_copied
-turns-copied old new place index peer held turn running runs ticks state made letters mark outputs reply =
+turns-copied old new place index peer held turn running runs ticks state media made letters mark outputs reply =
     let now : ReplicaState = record old.replica.state { copying = after_note old.replica.state.copying peer.0 held } in
     let own = list_in (lists_in old) old.replica.state.own in
     let few = span-copies (config_of old) (member_in old) own peer.0 (span_of_note (slice_index old.replica.state.copying.acked peer.0) held (length own)) (note-copies (slice_index old.replica.state.copying.acked peer.0) held (length own)) in
@@ -141,7 +142,7 @@ turns-copied old new place index peer held turn running runs ticks state made le
     ∙ ap (λ (n : ℕ). as_node (lists_of now) (mode_of Running now n)) ticks)
     (outputs ∙ made) reply (ap (λ (s : ReplicaState). s.config) state) (ap (λ (s : ReplicaState). member_of s) state)
     (record { few = size; letters = subst (λ (l : List Sent). AllByRecursion IsLetter l) (sym outputs) letters; reply = subst (λ (r : Reply). length (reply_bytes r) ≤ 65558) (sym reply) (omega arith) })
-    tt
+    tt (counts-same old.replica.media new.replica.media media)
 
 -- time passes
 pub turns-ticked : (old new : StorageState) (turn : Turn) → old.mode ≡ Running → new.mode ≡ Running → new.ticks ≡ old.ticks + 1 → new.replica ≡ old.replica
@@ -163,7 +164,7 @@ turns-ticked old new turn running runs ticks replica five made letters mark outp
     ∙ ap (λ (n : ℕ). as_node (lists_in old) (mode_of Running old.replica.state n)) (ticks ∙ next))
     all reply (ap (λ (r : Replicated). r.state.config) replica) (ap (λ (r : Replicated). member_of r.state) replica)
     (record { few = size; letters = letters; reply = subst (λ (r : Reply). length (reply_bytes r) ≤ 65558) (sym reply) (omega arith) })
-    tt
+    tt (counts-same old.replica.media new.replica.media (ap (λ (r : Replicated). r.media) replica))
 
 -- the length of a list of a node
 pub few-at : (inside node : StorageState) (segment len : ℕ) → inside ≡ node → segment < (config_of node).replicas → IsSound inside.mode inside.replica.state

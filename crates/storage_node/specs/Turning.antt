@@ -14,6 +14,7 @@ use Rattle.node_model.specs.StorageRow.{outcome, row}
 use Rattle.segment_journal.specs.Journalled.{Turns}
 use Rattle.shard_replica.specs.Lists.{medium_at}
 use Rattle.storage_node.specs.declared.turn.Turn.{Turn}
+use Rattle.storage_node.specs.Counting.{CountsOn}
 use Rattle.storage_node.specs.Opening.{RoseIn, mark_after}
 use Rattle.storage_node.specs.Preparing.{IsLetter}
 use Rattle.storage_node.specs.StorageState.{StorageState, config_of, lists_in, member_in, node_of}
@@ -58,11 +59,12 @@ IsTold node mark None = Unit {0}
 IsTold node mark (Some put) = IfSome (medium_at node.replica.media put.segment).turns (λ (turn : Turns). mark ≡ put_mark turn.put_fails)
 
 -- How an event turned out: it is a row of the rules, and its mark is the one that its journals tell. A node halts only where a
--- count of faults rose.
+-- count of faults rose, and none falls.
 pub record TurnsOut (old : StorageState) (input : Input) (turn : Turn) (new : StorageState) : Type 0 where
   pub row : IsTurn old input turn.mark turn.outputs turn.reply new
   pub small : IsSmall turn.outputs turn.reply
   pub halted : turn.mark ≡ Halted → RoseIn old.replica.media new.replica.media
+  pub counts : CountsOn old.replica.media new.replica.media
   pub told : IsTold old turn.mark (put_at old input)
   pub opened : input ≡ Restart → turn.mark ≡ mark_after old.replica.last_reload old.replica.media
   pub stayed : turn.mark ≡ StayedDown → input ≡ Restart

@@ -14,9 +14,10 @@ ghost use Rattle.node_model.specs.StorageNode.{member_of};
 ghost use Rattle.log_model.specs.Storage.{knowledge_of};
 ghost use Rattle.node_table.specs.declared.role.Role.TheVariants.{Storage};
 ghost use Rattle.shard_replica.specs.Lists.{HoldsRecords, but_room, but_turns, media_of, medium_at, segment_at, segments_of, turns_after};
+ghost use Rattle.storage_node.specs.Counting.{CountsOn};
 ghost use Rattle.storage_node.specs.Opening.{IsOpening, RoseIn, mark_after};
 ghost use Rattle.storage_node.specs.Preparing.{IsReady};
-ghost use Rattle.storage_node.specs.StorageState.{HasOneFlight, config_of, flight_in, lists_in, node_of, member_in};
+ghost use Rattle.storage_node.specs.StorageState.{HasOneFlight, RestsIn, config_of, flight_in, lists_in, node_of, member_in};
 ghost use Rattle.storage_node.specs.Turning.{IsTold, IsTurn, put_at};
 
 use crate::prepared::Prepared;
@@ -155,6 +156,7 @@ impl<J: Journal, P: Places> StorageNode<J, P> {
         ensures letters { out.new.letters ≡ out.old.letters }
         ensures ready { OnOk result (IsReady self.new input.now out.new) }
         ensures media { input.now ≢ Restart → map but_room self.new.replica.media ≡ map but_room self.old.replica.media }
+        ensures counts { CountsOn self.old.replica.media self.new.replica.media }
         ensures opening { input.now ≡ Restart → OnOk result (IsOpening self.new.replica.last_reload self.old.replica.media self.new.replica.media) }
     {
         match input {
@@ -180,6 +182,7 @@ impl<J: Journal, P: Places> StorageNode<J, P> {
 
         // Why a node is down, and that the marks are those that its journals tell.
         ensures halted { result.mark ≡ Halted → RoseIn self.old.replica.media self.new.replica.media }
+        ensures counts { CountsOn self.old.replica.media self.new.replica.media }
         ensures told { IsTold self.old result.mark (put_at self.old input) }
         ensures opened { input ≡ Restart → result.mark ≡ mark_after self.old.replica.last_reload self.old.replica.media }
         ensures stayed { result.mark ≡ StayedDown → input ≡ Restart }
@@ -200,6 +203,7 @@ impl<J: Journal, P: Places> StorageNode<J, P> {
         ensures media { map but_turns self.new.replica.media ≡ map but_turns self.old.replica.media }
         ensures turns { (k : ℕ) → (medium_at self.new.replica.media k).turns
             ≡ turns_after (segment_at self.old.replica.state.segments k) plan (medium_at self.old.replica.media k) }
+        ensures rests { RestsIn self.old.mode self.old.replica.state.segments }
     {
         self.replica.plan(plan);
     }
@@ -209,6 +213,7 @@ impl<J: Journal, P: Places> StorageNode<J, P> {
         ensures segments { segments_of J.state result.items ≡ self.replica.state.segments }
         ensures media { media_of J.state J.faults J.keeps_synced J.turns result.items ≡ self.replica.media }
         ensures records { All (λ j. HoldsRecords (J.state j)) result.items }
+        ensures rests { RestsIn self.mode self.replica.state.segments }
     {
         let StorageNode {
             seat: _,

@@ -2,6 +2,7 @@
 
 ghost use Rattle.std.specs.Prelude.{◌≡◌, [], OnOk};
 ghost use Rattle.history_frame.specs.declared.inputs.Input.TheVariants.{Restart, Stop};
+ghost use Rattle.storage_node.specs.Counting.{CountsOn};
 ghost use Rattle.storage_node.specs.Opening.{IsOpening};
 ghost use Rattle.storage_node.specs.Preparing.{IsReloaded};
 ghost use Rattle.storage_node.specs.Turning.{TurnsOut};
@@ -29,6 +30,7 @@ impl<J: Journal, P: Places> StorageNode<J, P> {
         ensures same { self.new.replica.state ≡ self.old.replica.state }
         ensures mode { (self.new.mode ≡ self.old.mode) × (self.new.ticks ≡ self.old.ticks) }
         ensures ready { OnOk result (IsReloaded self.new.replica.last_reload self.new.replica) }
+        ensures counts { CountsOn self.old.replica.media self.new.replica.media }
         ensures opening { OnOk result (IsOpening self.new.replica.last_reload self.old.replica.media self.new.replica.media) }
     {
         match self.replica.reload() {

@@ -1,8 +1,10 @@
-use Rattle.std.proofs.Common.{subst}
+use Rattle.std.proofs.Common.{Some, ◌≡◌, subst}
 use Rattle.log_base.specs.Shape.{shape}
 use Rattle.node_model.specs.NodeState.{IsRow}
+use Rattle.node_table.specs.Numbering.{role_at}
+use Rattle.core_step.specs.Disks.{media_in, segment_put, told_mark}
 use Rattle.core_step.specs.Standing.{Standing, state_of}
-use Rattle.core_step.proofs.Roles.{is_row, part_turns}
+use Rattle.core_step.proofs.Roles.{is_row, part_told, part_turns}
 use Rattle.core_step.proofs.node.NodeMachine.step.Goals as goal
 
 pub returns-clause-row : goal.returns-clause-row
@@ -12,4 +14,18 @@ returns-clause-row g c =
     let after = state_of journalled c.step.new.self in
     subst (λ (s : Standing g.row.J.Denot g.row.P.Denot). IsRow s.config s.number (state_of journalled s.part) c.step.result) c.self.view_is
     (is_row (shape node.config) node.number.0 (state_of journalled node.part) after c.step.result
-    (part_turns journalled (shape node.config) node.number.0 node.part c.step.result after c.self.invariant c.step.ensures.row))
+    (part_turns journalled (shape node.config) node.number.0 node.part c.step.result after c.self.invariant.seat c.step.ensures.row))
+
+pub returns-clause-told : goal.returns-clause-told
+returns-clause-told g c = λ other mark.
+    let node = c.self.inside in
+    let journalled = g.J.Journal.state in
+    let faults = g.J.Journal.faults in
+    let keeps = g.J.Journal.keeps_synced in
+    let turns = g.J.Journal.turns in
+    subst (λ (s : Standing g.row.J.Denot g.row.P.Denot).
+    told_mark (media_in journalled faults keeps turns s.part) (segment_put s.config (role_at s.config s.number) (state_of journalled s.part) c.args.input) ≡ Some mark
+    → c.step.result.mark ≡ mark)
+    c.self.view_is
+    (λ tells. c.step.ensures.told other mark
+    (part_told (state_of journalled node.part) (shape node.config) node.number.0 node.part (media_in journalled faults keeps turns node.part) c.args.input mark c.self.invariant.seat tells))

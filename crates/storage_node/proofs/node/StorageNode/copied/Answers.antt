@@ -13,7 +13,7 @@ returns-clause-turn g c = λ place index.
     let running : c.self.inside.mode ≡ Running = ap (λ (v : StorageState). v.mode) c.self.view_is ∙ c.requires.running in
     let outs : c.told.result.outputs ≡ c.self.inside.made.copies.items = search rules in
     turned-from _ _ _ _ _ c.self.view_is
-    (turns-copied _ _ place index c.args.peer c.args.held c.told.result running running refl c.copy_ack.ensures.state
+    (turns-copied _ _ place index c.args.peer c.args.held c.told.result running running refl c.copy_ack.ensures.state c.copy_ack.ensures.media
     (subst (λ (v : StorageState). v.copies ≡ copies_for_message v (CopyAck c.args.peer c.args.held)) (sym c.self.view_is) c.requires.copies)
     (subst (λ (v : StorageState). AllByRecursion IsLetter v.copies) (sym c.self.view_is) c.requires.each)
     c.told.ensures.mark outs c.told.ensures.reply)

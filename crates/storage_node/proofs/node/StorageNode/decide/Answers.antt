@@ -15,4 +15,4 @@ pub returns-clause-turn : goal.returns-clause-turn
 returns-clause-turn g c = λ place index.
     let running : c.self.inside.mode ≡ Running = ap (λ (v : StorageState). v.mode) c.self.view_is ∙ c.requires.running in
     turned-from _ _ _ _ _ c.self.view_is
-    (turns-decided _ _ place index c.args.slot c.args.value.now c.silent.result running running refl c.learn.ensures.state c.silent.ensures.mark c.silent.ensures.outputs c.silent.ensures.reply)
+    (turns-decided _ _ place index c.args.slot c.args.value.now c.silent.result running running refl c.learn.ensures.state c.learn.ensures.media c.silent.ensures.mark c.silent.ensures.outputs c.silent.ensures.reply)

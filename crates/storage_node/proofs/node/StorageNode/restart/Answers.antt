@@ -3,6 +3,7 @@ use Rattle.segment_journal.specs.declared.journal.Installed.TheVariants.{Failed,
 use Rattle.shard_replica.specs.Replica.{Replicated}
 use Rattle.storage_node.specs.Preparing.{IsReloaded}
 use Rattle.storage_node.specs.StorageState.{StorageState}
+use Rattle.storage_node.proofs.Counting.{counts-installed}
 use Rattle.storage_node.proofs.Sounding.{storage-down, turned-from}
 use Rattle.storage_node.proofs.Starting.{storage-opened, turns-opened, turns-stayed}
 use Rattle.storage_node.proofs.node.StorageNode.restart.Goals as goal
@@ -15,7 +16,7 @@ pub returns-in-Failed-clause-turn : goal.returns-in-Failed-clause-turn
 returns-in-Failed-clause-turn g c =
     turned-from _ _ _ _ _ c.self.view_is
     (turns-stayed _ _ c.silent.result c.self.invariant.sound (sym c.in-Failed.ensures.answer) (ap (λ (r : Replicated). r.state) (c.install.ensures.failed c.in-Failed.is)) refl
-    c.silent.ensures.mark c.silent.ensures.outputs c.silent.ensures.reply)
+    (counts-installed _ _ c.install.ensures.faults c.install.ensures.keeps) c.silent.ensures.mark c.silent.ensures.outputs c.silent.ensures.reply)
 
 pub invariant_of-self-in-OneMore : goal.invariant_of-self-in-OneMore
 invariant_of-self-in-OneMore g c =
@@ -27,7 +28,8 @@ returns-in-OneMore-clause-turn g c =
     turned-from _ _ _ _ _ c.self.view_is
     (turns-opened _ _ c.silent-in-OneMore.result OneMore c.self.invariant.sound
     (subst (λ (v : StorageState). IsReloaded v.replica.last_reload v.replica) (sym c.self.view_is) c.requires)
-    c.in-OneMore.ensures.answer (λ (e : OneMore ≡ Failed). cc) c.install.ensures.state refl refl c.silent-in-OneMore.ensures.mark c.silent-in-OneMore.ensures.outputs c.silent-in-OneMore.ensures.reply)
+    c.in-OneMore.ensures.answer (λ (e : OneMore ≡ Failed). cc) c.install.ensures.state refl refl
+    (counts-installed _ _ c.install.ensures.faults c.install.ensures.keeps) c.silent-in-OneMore.ensures.mark c.silent-in-OneMore.ensures.outputs c.silent-in-OneMore.ensures.reply)
 
 pub invariant_of-self-in-Same : goal.invariant_of-self-in-Same
 invariant_of-self-in-Same g c =
@@ -39,4 +41,5 @@ returns-in-Same-clause-turn g c =
     turned-from _ _ _ _ _ c.self.view_is
     (turns-opened _ _ c.silent-in-Same.result Same c.self.invariant.sound
     (subst (λ (v : StorageState). IsReloaded v.replica.last_reload v.replica) (sym c.self.view_is) c.requires)
-    c.in-Same.ensures.answer (λ (e : Same ≡ Failed). cc) c.install.ensures.state refl refl c.silent-in-Same.ensures.mark c.silent-in-Same.ensures.outputs c.silent-in-Same.ensures.reply)
+    c.in-Same.ensures.answer (λ (e : Same ≡ Failed). cc) c.install.ensures.state refl refl
+    (counts-installed _ _ c.install.ensures.faults c.install.ensures.keeps) c.silent-in-Same.ensures.mark c.silent-in-Same.ensures.outputs c.silent-in-Same.ensures.reply)

@@ -1,0 +1,47 @@
+//! The journals of a node.
+
+ghost use Rattle.std.specs.Prelude.{◌≡◌, ℕ, map};
+ghost use Rattle.node_model.specs.Durable.{payload_in_flight};
+ghost use Rattle.segment_journal.specs.Journalled.{planned};
+ghost use Rattle.shard_replica.specs.Journals.{states_of};
+ghost use Rattle.shard_replica.specs.Lists.{but_turns, media_of, medium_at};
+ghost use Rattle.core_step.specs.Disks.{media_in};
+ghost use Rattle.core_step.specs.Handed.{HoldsState};
+ghost use Rattle.core_step.specs.Standing.{state_of};
+
+use crate::node::Node;
+use cut_chain::Places;
+use disk_base::Plan;
+use segment_journal::Journal;
+
+impl<J: Journal, P: Places> Node<J, P> {
+    /// Hands the plan to each journal. The state stays.
+    pub fn plan(&mut self, plan: Plan)
+        ensures config { self.new.config ≡ self.old.config }
+        ensures number { self.new.number ≡ self.old.number }
+        ensures state { state_of J.state self.new.part ≡ state_of J.state self.old.part }
+        ensures media { map but_turns (media_in J.state J.faults J.keeps_synced J.turns self.new.part)
+            ≡ map but_turns (media_in J.state J.faults J.keeps_synced J.turns self.old.part) }
+        ensures turns { (k : ℕ) → (medium_at (media_in J.state J.faults J.keeps_synced J.turns self.new.part) k).turns
+            ≡ planned (payload_in_flight (state_of J.state self.old.part) k) plan
+            (medium_at (media_in J.state J.faults J.keeps_synced J.turns self.old.part) k).turns }
+    {
+        self.part.plan(plan);
+    }
+}
+
+impl<J: Journal + Drop, P: Places> Node<J, P> {
+    /// Gives the journals back, in order of segment. A gatherer has none.
+    pub fn into_journals(self) -> Vec<J>
+        ensures holds { HoldsState (states_of J.state result.items) (state_of J.state self.part) }
+        ensures media { media_of J.state J.faults J.keeps_synced J.turns result.items ≡ media_in J.state J.faults J.keeps_synced J.turns self.part }
+    {
+        let Node {
+            config: _,
+            number: _,
+            part,
+            spare,
+        } = self;
+        part.into_journals(spare)
+    }
+}
