@@ -1,0 +1,12 @@
+pub mod Kept
+pub mod Ready
+pub mod Along
+pub mod Posted
+pub mod Counted
+pub mod Permitted
+pub mod Permitting
+pub mod Submitting
+pub mod Head
+pub mod Singles
+pub mod RunLaws
+pub mod Runs

@@ -1,0 +1,148 @@
+-- Each letter in the queue is an output of an event.
+use Rattle.std.proofs.Common.{◌≡◌, ℕ, ◌+◌, zero, suc, List, [], ◌∷◌, ◌++◌, length, Some, slice_get, refl, ap, sym, subst, ◌∙◌, append_assoc, length-append, arith}
+use Rattle.std.specs.List.{AllByRecursion}
+use Rattle.log_base.proofs.Legal.{at_longer}
+use Rattle.log_base.specs.ClusterShape.{Shape}
+use Rattle.command_frame.specs.declared.items.Item.{Item}
+use Rattle.command_frame.specs.declared.items.Item.TheVariants.{Append, Read, Add}
+use Rattle.history_frame.specs.declared.events.Event.{Event}
+use Rattle.history_frame.specs.declared.events.Sent.{Sent}
+use Rattle.node_model.specs.Histories.{IsDelivered, IsSent}
+use Rattle.serial_schedule.specs.declared.duties.Duty.{Duty}
+use Rattle.serial_schedule.specs.declared.duties.Duty.TheVariants.{Give, DeliverAll, MakeCall}
+use Rattle.serial_schedule.specs.declared.duties.Signal.{Signal}
+use Rattle.serial_schedule.specs.declared.duties.Signal.TheVariants.{Restart, Lead, Tick}
+use Rattle.serial_schedule.specs.declared.turns.Turn.{Turn}
+use Rattle.serial_schedule.specs.Driven.{after_event, after_events}
+use Rattle.serial_schedule.specs.Duties.{signal_input}
+use Rattle.serial_schedule.specs.Scheduling.{Scheduled, Waiting, at_first, begun, delivery, first_step, given, letters_from, next_turn, noted, ready, rest_in, turn_in}
+use Rattle.serial_schedule.proofs.Along.{along, ready-keeps, some_is}
+use Rattle.serial_schedule.proofs.Kept.{each-append, noted-parts}
+
+-- the output with its index of the event at its place
+pub record IsPosted (events : List Event) (letter : Waiting) : Type 0 where
+  pub event : Event
+  pub at : slice_get events letter.place ≡ Some event
+  pub output : slice_get event.happened.outputs letter.index ≡ Some letter.sent
+
+-- so is each letter, and the next event has the next place
+pub record ArePosted (events : List Event) (s : Scheduled) : Type 0 where
+  pub place : s.place ≡ length events
+  pub each : AllByRecursion (IsPosted events) s.queue
+
+-- ---- as events are added
+
+longer : (before : List Event) (event : Event) (letters : List Waiting) → AllByRecursion (IsPosted before) letters
+    → AllByRecursion (IsPosted (before ++ event ∷ [])) letters
+longer before event [] h = tt
+longer before event (letter ∷ letters) h =
+    (record { event = h.0.event; at = (at_longer before (event ∷ []) letter.place h.0.event h.0.at).0; output = h.0.output }, longer before event letters h.1)
+
+-- the last of some events
+last_event : (before : List Event) (event : Event) → slice_get (before ++ event ∷ []) (length before) ≡ Some event
+last_event [] event = refl
+last_event (first ∷ before) event = last_event before event
+
+-- an output behind others
+behind : (front rest : List Sent) (sent : Sent) → slice_get (front ++ sent ∷ rest) (length front) ≡ Some sent
+behind [] rest sent = refl
+behind (first ∷ front) rest sent = behind front rest sent
+
+-- the outputs of the event, from one on
+new_letters : (before : List Event) (event : Event) (place index : ℕ) (front outputs : List Sent) → place ≡ length before → index ≡ length front
+    → event.happened.outputs ≡ front ++ outputs
+    → AllByRecursion (IsPosted (before ++ event ∷ [])) (letters_from place index outputs)
+new_letters before event place index front [] here count all = tt
+new_letters before event place index front (sent ∷ outputs) here count all = (
+  record {
+    event = event;
+    at = ap (slice_get (before ++ event ∷ [])) here ∙ last_event before event;
+    output = ap (λ (sents : List Sent). slice_get sents index) all ∙ ap (slice_get (front ++ sent ∷ outputs)) count ∙ behind front outputs sent;
+  },
+  new_letters before event place (index + 1) (front ++ sent ∷ []) outputs here
+      (let more : length (front ++ sent ∷ []) ≡ length front + 1 = length-append front (sent ∷ []) in omega arith)
+      (all ∙ sym (append_assoc front (sent ∷ []) outputs)),
+)
+
+-- ---- what a schedule keeps
+
+begun-posted : (events : List Event) (s : Scheduled) (item : Item) (items : List Item) → ArePosted events s → ArePosted events (begun s item items)
+begun-posted events s (Append lane shard replica bytes) items h = record { place = h.place; each = h.each }
+begun-posted events s (Read lane shard replica position) items h = record { place = h.place; each = h.each }
+begun-posted events s (Add lane shard) items h = record { place = h.place; each = h.each }
+
+pub ready-posted : (events : List Event) (s : Scheduled) → ArePosted events s → ArePosted events (ready s)
+ready-posted events s h =
+    ready-keeps (ArePosted events) (λ x p. record { place = p.place; each = p.each }) (λ x item items left idle p. begun-posted events x item items p) s h
+
+delivery-posted : (events : List Event) (s : Scheduled) (queue : List Waiting) → s.queue ≡ queue → ArePosted events s → ArePosted events (rest_in s (delivery s queue))
+delivery-posted events s [] e h = h
+delivery-posted events s (letter ∷ queue) e h = record { place = h.place; each = let all = subst (AllByRecursion (IsPosted events)) e h.each in all.1 }
+
+first-posted : (events : List Event) (s : Scheduled) (duties : List Duty) → ArePosted events s → ArePosted events (rest_in s (first_step s duties))
+first-posted events s [] h = h
+first-posted events s (Give signal first count ∷ duties) h = record { place = h.place; each = h.each }
+first-posted events s (DeliverAll ∷ duties) h = delivery-posted events s s.queue refl h
+first-posted events s (MakeCall node call awaited ∷ duties) h = record { place = h.place; each = h.each }
+
+given-posted : (events : List Event) (s : Scheduled) → ArePosted events s → ArePosted events (given s)
+given-posted events s h = first-posted events (ready s) (ready s).duties (ready-posted events s h)
+
+noted-posted : (before : List Event) (event : Event) (s : Scheduled) → ArePosted before s
+    → ArePosted (before ++ event ∷ []) (noted s event.happened.outputs event.happened.reply)
+noted-posted before event s h =
+    subst (ArePosted (before ++ event ∷ [])) (sym (noted-parts s event.happened.outputs event.happened.reply))
+    (record {
+      place = let more : length (before ++ event ∷ []) ≡ length before + 1 = length-append before (event ∷ []) in ap (λ (n : ℕ). n + 1) h.place ∙ sym more;
+      each = each-append (IsPosted (before ++ event ∷ [])) s.queue (letters_from s.place 0 event.happened.outputs)
+          (longer before event s.queue h.each)
+          (new_letters before event s.place 0 [] event.happened.outputs h.place refl refl);
+    })
+
+event-posted : (before : List Event) (s : Scheduled) (event : Event) → ArePosted before s → ArePosted (before ++ event ∷ []) (after_event s event)
+event-posted before s event h = noted-posted before event (given s) (given-posted before s h)
+
+pub events-posted : (s : Scheduled) (events : List Event) → ArePosted [] s → ArePosted events (after_events s events)
+events-posted s events h = along ArePosted event-posted [] s events h
+
+pub first-posted-is : (config : Shape) (run : ℕ) (items : List Item) → ArePosted [] (at_first config run items)
+first-posted-is config run items = record { place = refl; each = tt }
+
+-- ---- the letter that is delivered
+
+each-at : {X : Type 0} (P : X → Type 0) (xs : List X) (k : ℕ) (x : X) → AllByRecursion P xs → slice_get xs k ≡ Some x → P x
+each-at P [] k x h e = cc
+each-at P (y ∷ ys) zero x h e = let same : y ≡ x = cc in subst P same h.0
+each-at P (y ∷ ys) (suc k) x h e = each-at P ys k x h.1 e
+
+posted-sent : (events : List Event) (letter : Waiting) → IsPosted events letter → IsSent events letter.sent.to.0 letter.place letter.index letter.sent.message
+posted-sent events letter h = record { event = h.event; at = h.at; output = h.output }
+
+pub queue-sent : (events : List Event) (s : Scheduled) (k : ℕ) (letter : Waiting) → ArePosted events s → slice_get s.queue k ≡ Some letter
+    → IsSent events letter.sent.to.0 letter.place letter.index letter.sent.message
+queue-sent events s k letter h e = posted-sent events letter (each-at (IsPosted events) s.queue k letter h.each e)
+
+signal-delivered : (events : List Event) (node : ℕ) (signal : Signal) → IsDelivered events node (signal_input signal)
+signal-delivered events node Restart = tt
+signal-delivered events node Lead = tt
+signal-delivered events node Tick = tt
+
+-- the turn of a letter delivers what was sent
+abbrev pub Delivers : List Event → Turn → Type 0
+Delivers events turn = IsDelivered events turn.node.0 turn.input
+
+delivery-delivered : (events : List Event) (s : Scheduled) (queue : List Waiting) (turn : Turn) → AllByRecursion (IsPosted events) queue
+    → turn_in (delivery s queue) ≡ Some turn → Delivers events turn
+delivery-delivered events s [] turn h e = cc
+delivery-delivered events s (letter ∷ queue) turn h e = subst (Delivers events) (some_is e) (posted-sent events letter h.0)
+
+first-delivered : (events : List Event) (s : Scheduled) (duties : List Duty) (turn : Turn) → ArePosted events s
+    → turn_in (first_step s duties) ≡ Some turn → Delivers events turn
+first-delivered events s [] turn h e = cc
+first-delivered events s (Give signal first count ∷ duties) turn h e = subst (Delivers events) (some_is e) (signal-delivered events first.0 signal)
+first-delivered events s (DeliverAll ∷ duties) turn h e = delivery-delivered events s s.queue turn h.each e
+first-delivered events s (MakeCall node call awaited ∷ duties) turn h e = subst (Delivers events) (some_is e) tt
+
+pub next-delivered : (events : List Event) (s : Scheduled) (turn : Turn) → ArePosted events s → next_turn s ≡ Some turn
+    → IsDelivered events turn.node.0 turn.input
+next-delivered events s turn h e = first-delivered events (ready s) (ready s).duties turn (ready-posted events s h) e

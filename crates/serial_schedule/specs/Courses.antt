@@ -1,0 +1,87 @@
+-- How an item goes: what is due when it begins, and what an answer means for it.
+use Rattle.std.specs.Prelude.{ℕ, ◌+◌, List, [], ◌∷◌, ◌++◌, nat_lt, if◌then◌else◌, slice_index}
+use Rattle.log_base.specs.ClusterShape.{Shape}
+use Rattle.log_base.specs.Draws.{number_of_draw}
+use Rattle.log_base.specs.declared.numbers.Client.{Client}
+use Rattle.log_base.specs.declared.numbers.NodeId.{NodeId}
+use Rattle.log_base.specs.declared.numbers.Number.{Number}
+use Rattle.log_base.specs.declared.numbers.Position.{Position}
+use Rattle.log_base.specs.declared.numbers.Replica.{Replica}
+use Rattle.record_frame.specs.declared.values.Value.{Value}
+use Rattle.record_frame.specs.declared.values.Value.TheVariants.{Add as AddValue}
+use Rattle.command_frame.specs.declared.items.Item.{Item}
+use Rattle.command_frame.specs.declared.items.Item.TheVariants.{Append, Read, Add}
+use Rattle.command_frame.specs.declared.replies.Reply.{Reply, Stored, Down, Elsewhere, Taken, NotLeading, NoLeader}
+use Rattle.history_frame.specs.declared.inputs.Call.TheVariants.{Submit, Ask, Read as ReadCall, Request, Settled}
+use Rattle.node_table.specs.Numbering.{orderer_node, storage_node}
+use Rattle.serial_schedule.specs.declared.duties.Awaited.{Awaited}
+use Rattle.serial_schedule.specs.declared.duties.Awaited.TheVariants.{Storing, Requesting, Reading, Last}
+use Rattle.serial_schedule.specs.declared.duties.Duty.{Duty}
+use Rattle.serial_schedule.specs.declared.duties.Duty.TheVariants.{MakeCall}
+use Rattle.serial_schedule.specs.declared.courses.Course.{Course}
+use Rattle.serial_schedule.specs.declared.courses.Course.TheVariants.{Replies, GoesOn}
+use Rattle.serial_schedule.specs.Duties.{settling}
+
+-- ---- calls
+
+-- the client of a lane
+abbrev pub client_of : ℕ → Client
+client_of lane = record { 0 = lane }
+
+-- an append is submitted to its primary
+abbrev pub submission : NodeId → Client → Number → List ℕ → Duty
+submission primary client number bytes = MakeCall primary (Submit client number bytes) (Storing primary client number)
+
+-- the primary is asked where the append stands
+abbrev pub enquiry : NodeId → Client → Number → Duty
+enquiry primary client number = MakeCall primary (Ask client number) Last
+
+-- a value is requested of an orderer
+abbrev pub request : Shape → ℕ → Client → Value → Duty
+request config orderer client value =
+    MakeCall (record { 0 = orderer_node config orderer }) (Request client value) (Requesting orderer client value)
+
+-- that orderer is asked whether the value is settled in a slot from this one on
+abbrev pub confirmation : Shape → ℕ → Client → Value → ℕ → Duty
+confirmation config orderer client value slot =
+    MakeCall (record { 0 = orderer_node config orderer }) (Settled client value slot) Last
+
+-- a replica of a shard is asked for the entry at a position
+abbrev pub reading_at : Shape → ℕ → Replica → Client → Position → Awaited → Duty
+reading_at config shard replica client position awaited =
+    MakeCall (record { 0 = storage_node config shard replica.0 }) (ReadCall client position) awaited
+
+-- ---- answers
+
+-- A value is requested of this orderer, if there is one.
+abbrev pub requested : Shape → ℕ → Client → Value → Course
+requested config orderer client value =
+    if nat_lt orderer config.orderers then GoesOn (request config orderer client value ∷ []) else Replies NoLeader
+
+-- What an answer means. A stored append is asked for once the cluster has settled. A request goes on to the next orderer where
+-- this one does not lead or is down; a request that is taken is asked for at the same orderer once the cluster has settled. A
+-- read goes on to the replica of the same number in the shard that is told to have the position, and only once. All else is the
+-- reply.
+abbrev pub course_of : Shape → Awaited → Reply → Course
+course_of config (Storing primary client number) (Stored offset) = GoesOn (settling config ++ enquiry primary client number ∷ [])
+course_of config (Requesting orderer client value) NotLeading = requested config (orderer + 1) client value
+course_of config (Requesting orderer client value) Down = requested config (orderer + 1) client value
+course_of config (Requesting orderer client value) (Taken slot) = GoesOn (settling config ++ confirmation config orderer client value slot ∷ [])
+course_of config (Reading replica client position) (Elsewhere shard) =
+    if nat_lt shard.0 config.shards then GoesOn (reading_at config shard.0 replica client position Last ∷ []) else Replies (Elsewhere shard)
+course_of config _ reply = Replies reply
+
+-- ---- beginnings
+
+-- the number that a lane draws next
+abbrev pub next_number : ℕ → List ℕ → ℕ → Number
+next_number run draws lane = record { 0 = number_of_draw run (slice_index draws lane) }
+
+-- How an item begins. An append is submitted to its primary, under the number that its lane draws next. An addition is requested
+-- of orderer 0.
+abbrev pub beginning : Shape → ℕ → List ℕ → Item → Course
+beginning config run draws (Append lane shard replica bytes) =
+    GoesOn (submission (record { 0 = storage_node config shard.0 replica.0 }) (client_of lane) (next_number run draws lane) bytes ∷ [])
+beginning config run draws (Read lane shard replica position) =
+    GoesOn (reading_at config shard.0 replica (client_of lane) position (Reading replica (client_of lane) position) ∷ [])
+beginning config run draws (Add lane shard) = GoesOn (request config 0 (client_of lane) (AddValue shard) ∷ [])

@@ -1,0 +1,119 @@
+//! How items begin.
+
+ghost use Rattle.std.specs.Prelude.{◌≡◌, ◌≤◌, ◌<◌, [], ◌∷◌, IfOk, replicate, slice_index};
+ghost use Rattle.log_base.specs.Draws.{number_of_draw};
+ghost use Rattle.log_base.specs.Shape.{shape};
+ghost use Rattle.command_frame.specs.Items.{IsItem};
+ghost use Rattle.serial_schedule.specs.Courses.{beginning, submission};
+ghost use Rattle.serial_schedule.specs.Keeping.{HasRoom};
+ghost use Rattle.serial_schedule.specs.Scheduling.{drawn};
+
+use crate::calls::{reading, request};
+use crate::courses::Course;
+use crate::duties::{Awaited, Duty};
+use command_frame::Item;
+use history_frame::Call;
+use log_base::{Bytes, Client, Config, Memory, NodeId, Number};
+use node_table::storage;
+use record_frame::Value;
+use std::alloc::Global;
+
+/// The call that an item begins with.
+pub fn first_duty(
+    alloc: Global,
+    config: &Config,
+    run: u32,
+    draws: &[u32; 64],
+    item: &Item,
+) -> Result<Duty, Memory>
+    requires run { run ≤ 1000000 }
+    requires item { IsItem (shape config.now) item.now }
+    ensures { IfOk result (λ duty. Course.GoesOn (duty ∷ []) ≡ beginning (shape config.now) run draws.now item.now) }
+{
+    match item {
+        Item::Append {
+            lane,
+            shard,
+            replica,
+            bytes,
+        } => {
+            let primary = storage(config, *shard, *replica);
+            let number = next_number(run, draws[usize::from(*lane)]);
+            submission(alloc, primary, client_of(*lane), number, bytes)
+        }
+        Item::Read {
+            lane,
+            shard,
+            replica,
+            position,
+        } => {
+            let client = client_of(*lane);
+            let awaited = Awaited::Reading {
+                replica: *replica,
+                client,
+                position: *position,
+            };
+            Ok(reading(config, *shard, *replica, client, *position, awaited))
+        }
+        Item::Add { lane, shard } => Ok(request(config, 0, client_of(*lane), &Value::Add(*shard))),
+    }
+}
+
+/// No lane has drawn a number.
+pub fn no_draws() -> [u32; 64]
+    ensures { result ≡ replicate 64 0 }
+{
+    [0; 64]
+}
+
+/// The lane of an append draws a number.
+pub fn draw(draws: &mut [u32; 64], item: &Item)
+    requires { HasRoom draws.old item.now }
+    ensures { draws.new ≡ drawn item.now draws.old }
+{
+    match item {
+        Item::Append { lane, .. } => draws[usize::from(*lane)] += 1,
+        Item::Read { .. } | Item::Add { .. } => {}
+    }
+}
+
+/// The client of a lane.
+fn client_of(lane: u8) -> Client
+    ensures { result.0 ≡ lane }
+{
+    Client(u16::from(lane))
+}
+
+/// The number that is drawn after so many others.
+fn next_number(run: u32, drawn: u32) -> Number
+    requires { run ≤ 1000000 }
+    ensures { result.0 ≡ number_of_draw run drawn }
+{
+    Number(u64::from(run) * 4_294_967_296 + u64::from(drawn))
+}
+
+/// A record is submitted to its primary. Its bytes are copied.
+fn submission(
+    alloc: Global,
+    primary: NodeId,
+    client: Client,
+    number: Number,
+    bytes: &Bytes,
+) -> Result<Duty, Memory>
+    ensures { IfOk result (λ duty. duty ≡ submission primary client number bytes.now) }
+{
+    let bytes = Vec::from_slice(alloc, bytes.get())?;
+    Ok(Duty::MakeCall {
+        node: primary,
+        call: Call::Submit {
+            client,
+            number,
+            bytes: Bytes::of(bytes),
+        },
+        awaited: Awaited::Storing {
+            primary,
+            client,
+            number,
+        },
+    })
+}

@@ -1,0 +1,162 @@
+//! How an item goes on after an answer.
+
+ghost use Rattle.std.specs.Prelude.{◌≡◌, ◌<◌, [], ◌∷◌, ◌++◌, IfOk};
+ghost use Rattle.log_base.specs.Shape.{shape};
+ghost use Rattle.serial_schedule.specs.Courses.{course_of, requested};
+ghost use Rattle.serial_schedule.specs.Duties.{settling};
+ghost use Rattle.serial_schedule.specs.Keeping.{IsAwaited, IsSingle};
+
+use crate::calls::{confirmation, enquiry, reading, request};
+use crate::duties::{Awaited, Duty};
+use crate::replies::copy_reply;
+use crate::rounds::settling;
+use command_frame::Reply;
+use log_base::{Client, Config, List, Memory, NodeId, Number, Position, Replica};
+use record_frame::Value;
+use std::alloc::Global;
+
+/// How an item goes on after an answer.
+#[derive(Debug, Drop)]
+pub enum Course {
+    /// The item is done, with this reply.
+    Replies(Reply),
+    /// These are due before all else.
+    GoesOn(List<Duty>),
+}
+
+/// What an answer means for its item.
+pub fn course_after(
+    alloc: Global,
+    config: &Config,
+    awaited: &Awaited,
+    reply: &Reply,
+) -> Result<Course, Memory>
+    requires awaited { IsAwaited (shape config.now) awaited.now }
+    requires single { IsSingle reply.now }
+    ensures { IfOk result (λ course. course ≡ course_of (shape config.now) awaited.now reply.now) }
+{
+    match awaited {
+        Awaited::Storing {
+            primary,
+            client,
+            number,
+        } => after_submission(alloc, config, *primary, *client, *number, reply),
+        Awaited::Requesting {
+            orderer,
+            client,
+            value,
+        } => after_request(alloc, config, *orderer, *client, value, reply),
+        Awaited::Reading {
+            replica,
+            client,
+            position,
+        } => after_read(alloc, config, *replica, *client, *position, reply),
+        Awaited::Last => replies(alloc, reply),
+    }
+}
+
+/// A stored append is asked for once the cluster has settled.
+fn after_submission(
+    alloc: Global,
+    config: &Config,
+    primary: NodeId,
+    client: Client,
+    number: Number,
+    reply: &Reply,
+) -> Result<Course, Memory>
+    requires { IsSingle reply.now }
+    ensures { IfOk result (λ course. course ≡ course_of (shape config.now) (Awaited.Storing primary client number) reply.now) }
+{
+    match reply {
+        Reply::Stored { .. } => settles(alloc, config, enquiry(primary, client, number)),
+        _ => replies(alloc, reply),
+    }
+}
+
+/// A request goes on to the next orderer, or it is taken and asked for once the cluster has settled.
+fn after_request(
+    alloc: Global,
+    config: &Config,
+    orderer: u8,
+    client: Client,
+    value: &Value,
+    reply: &Reply,
+) -> Result<Course, Memory>
+    requires orderer { orderer < (shape config.now).orderers }
+    requires single { IsSingle reply.now }
+    ensures { IfOk result (λ course. course ≡ course_of (shape config.now) (Awaited.Requesting orderer client value.now) reply.now) }
+{
+    match reply {
+        Reply::NotLeading | Reply::Down => requested(alloc, config, orderer + 1, client, value),
+        Reply::Taken { from } => {
+            let duty = confirmation(config, orderer, client, value, *from);
+            settles(alloc, config, duty)
+        }
+        _ => replies(alloc, reply),
+    }
+}
+
+/// A read goes on to the shard that has the position.
+fn after_read(
+    alloc: Global,
+    config: &Config,
+    replica: Replica,
+    client: Client,
+    position: Position,
+    reply: &Reply,
+) -> Result<Course, Memory>
+    requires replica { replica.0 < (shape config.now).replicas }
+    requires single { IsSingle reply.now }
+    ensures { IfOk result (λ course. course ≡ course_of (shape config.now) (Awaited.Reading replica client position) reply.now) }
+{
+    match reply {
+        Reply::Elsewhere { shard } if shard.0 < u16::from(config.shards()) => {
+            let duty = reading(config, *shard, replica, client, position, Awaited::Last);
+            goes_on(alloc, duty)
+        }
+        _ => replies(alloc, reply),
+    }
+}
+
+/// A value is requested of this orderer, if there is one.
+fn requested(
+    alloc: Global,
+    config: &Config,
+    orderer: u8,
+    client: Client,
+    value: &Value,
+) -> Result<Course, Memory>
+    ensures { IfOk result (λ course. course ≡ requested (shape config.now) orderer client value.now) }
+{
+    if orderer < config.orderers() {
+        goes_on(alloc, request(config, orderer, client, value))
+    } else {
+        Ok(Course::Replies(Reply::NoLeader))
+    }
+}
+
+/// The answer is the reply.
+fn replies(alloc: Global, reply: &Reply) -> Result<Course, Memory>
+    requires { IsSingle reply.now }
+    ensures { IfOk result (λ course. course ≡ Course.Replies reply.now) }
+{
+    Ok(Course::Replies(copy_reply(alloc, reply)?))
+}
+
+/// One call is due.
+fn goes_on(alloc: Global, duty: Duty) -> Result<Course, Memory>
+    ensures { IfOk result (λ course. course ≡ Course.GoesOn (duty ∷ [])) }
+{
+    let mut duties = Vec::new(alloc);
+    duties.push(duty)?;
+    Ok(Course::GoesOn(List::of(duties)))
+}
+
+/// A call is due once the cluster has settled.
+fn settles(alloc: Global, config: &Config, duty: Duty) -> Result<Course, Memory>
+    ensures { IfOk result (λ course. course ≡ Course.GoesOn (settling (shape config.now) ++ duty ∷ [])) }
+{
+    let mut duties = settling(alloc, config)?;
+    duties.push(duty)?;
+    Ok(Course::GoesOn(List::of(duties)))
+}

@@ -1,0 +1,72 @@
+//! Laws of the schedule. Each function does nothing: its contract is the law.
+
+ghost use Rattle.std.specs.Prelude.{◌≡◌, ℕ, ◌≤◌, List, [], ◌∷◌, ◌++◌, length, slice_get};
+ghost use Rattle.std.specs.List.{AllByRecursion};
+ghost use Rattle.log_base.specs.ClusterShape.{Shape};
+ghost use Rattle.command_frame.specs.declared.items.Item.{Item};
+ghost use Rattle.command_frame.specs.declared.replies.Reply.{Settled};
+ghost use Rattle.history_frame.specs.declared.events.Event.{Event};
+ghost use Rattle.history_frame.specs.declared.events.Happened.{Happened};
+ghost use Rattle.node_model.specs.Histories.{IsDelivered, IsSent};
+ghost use Rattle.node_model.specs.Legal.{AgreesWith, IsOfRun};
+ghost use Rattle.node_model.specs.NodeState.{IsRow, NodeState};
+ghost use Rattle.serial_schedule.specs.declared.turns.Turn.{Turn};
+ghost use Rattle.serial_schedule.specs.Calling.{IsAllowed, IsNoLetter, IsRun};
+ghost use Rattle.serial_schedule.specs.Driven.{IsDriven, IsFollowed, after_event, next_turn_after, replies_of, scheduled_after, turn_of};
+ghost use Rattle.serial_schedule.specs.Keeping.{IsSingle};
+ghost use Rattle.serial_schedule.specs.Scheduling.{Waiting};
+ghost use Rattle.serial_schedule.specs.Worked.{addition, confirmed, decided, opened, opening_turns, silent, smallest, two_by_two};
+
+/// Runs worked by hand follow the schedule: an opening, and the addition of a shard in the smallest cluster.
+pub fn worked_runs()
+    ensures opening { IsFollowed two_by_two 1 [] (silent opening_turns) }
+    ensures driven { IsDriven smallest 1 addition (opened ++ decided ++ confirmed) }
+    ensures replies { replies_of smallest 1 addition (opened ++ decided ++ confirmed) ≡ Settled (record { 0 = 0 }) ∷ [] }
+{}
+
+/// An event that is the next turn goes on with the events before it. Its place is how many these are.
+pub fn one_event_more()
+    ensures place { (config : Shape) (run : ℕ) (items : List Item) (events : List Event)
+        → (scheduled_after config run items events).place ≡ length events }
+    ensures after { (config : Shape) (run : ℕ) (items : List Item) (events : List Event) (event : Event)
+        → scheduled_after config run items (events ++ event ∷ []) ≡ after_event (scheduled_after config run items events) event }
+    ensures followed { (config : Shape) (run : ℕ) (items : List Item) (events : List Event) (event : Event) → IsFollowed config run items events
+        → next_turn_after config run items events ≡ Some (turn_of event) → IsFollowed config run items (events ++ event ∷ []) }
+{}
+
+/// Each letter that waits, or is delivered next, is an output of an event to this node.
+pub fn letters_were_sent()
+    ensures waiting { (config : Shape) (run : ℕ) (items : List Item) (events : List Event) (k : ℕ) (letter : Waiting)
+        → slice_get (scheduled_after config run items events).queue k ≡ Some letter
+        → IsSent events letter.sent.to.0 letter.place letter.index letter.sent.message }
+    ensures delivered { (config : Shape) (run : ℕ) (items : List Item) (events : List Event) (turn : Turn)
+        → next_turn_after config run items events ≡ Some turn → IsDelivered events turn.node.0 turn.input }
+{}
+
+/// Each input that delivers no letter is one that its node may take, whatever the events were.
+pub fn inputs_are_allowed()
+    ensures { (config : Shape) (run : ℕ) (items : List Item) (events : List Event) (turn : Turn) → IsRun config run items
+        → next_turn_after config run items events ≡ Some turn → IsNoLetter turn.input → IsAllowed config turn }
+{}
+
+/// What is submitted next has a number of the run, and what was submitted under the same pair went to the same
+/// node with the same bytes.
+pub fn submissions_agree()
+    ensures of_run { (config : Shape) (run : ℕ) (items : List Item) (events : List Event) (turn : Turn) → IsRun config run items
+        → IsFollowed config run items events → next_turn_after config run items events ≡ Some turn → IsOfRun run turn.input }
+    ensures one_node { (config : Shape) (run : ℕ) (items : List Item) (events : List Event) (event : Event) → IsRun config run items
+        → IsFollowed config run items (events ++ event ∷ []) → AllByRecursion (AgreesWith event) events }
+{}
+
+/// No node answers with a stream.
+pub fn answers_are_single()
+    ensures { (config : Shape) (node : ℕ) (state : NodeState) (happened : Happened) → IsRow config node state happened → IsSingle happened.reply }
+{}
+
+/// No item is answered twice, and each is answered when the run is over.
+pub fn each_item_is_answered()
+    ensures few { (config : Shape) (run : ℕ) (items : List Item) (events : List Event)
+        → length (replies_of config run items events) ≤ length items }
+    ensures all { (config : Shape) (run : ℕ) (items : List Item) (events : List Event) → next_turn_after config run items events ≡ None
+        → length (replies_of config run items events) ≡ length items }
+{}
