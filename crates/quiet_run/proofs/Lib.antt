@@ -1,0 +1,13 @@
+pub mod Fronts
+pub mod Stands
+pub mod Passing
+pub mod Answering
+pub mod RowAnswers
+pub mod NodeAnswers
+pub mod Coming
+pub mod Taken
+pub mod Next
+pub mod Going
+pub mod Mosts
+pub mod Ending
+pub mod Empty

@@ -1,0 +1,31 @@
+use Rattle.std.proofs.Common.{List, [], length, map, ap, sym, subst, ◌∙◌}
+use Rattle.std.specs.Prelude.{IfErr, IfOk}
+use Rattle.core_step.specs.Standing.{Standing, cluster_node}
+use Rattle.log_base.specs.Shape.{shape}
+use Rattle.quiet_run.specs.declared.outcomes.Driven.{Driven}
+use Rattle.quiet_run.specs.declared.outcomes.DriveStop.{DriveStop}
+use Rattle.quiet_run.specs.Runs.{IsStoppedRun}
+use Rattle.quiet_run.specs.Standing.{StandAfter, job}
+use Rattle.quiet_run.proofs.Ending.{lent_whole}
+use Rattle.quiet_run.proofs.serving.drive.Goals as goal
+
+pub serve-requires-clause-nodes : goal.serve-requires-clause-nodes
+serve-requires-clause-nodes g c =
+    subst (λ (ns : List (Standing g.row.J.Denot g.row.P.Denot)). StandAfter (job (shape c.args.config) c.args.run c.args.items.now c.args.kept.items) [] (map (cluster_node g.J.Journal.state) ns))
+    (sym c.deref_mut.ensures.value) c.requires.nodes
+
+pub returns-clause-nodes : goal.returns-clause-nodes
+returns-clause-nodes g c =
+    let long = λ (ns : List (Standing g.row.J.Denot g.row.P.Denot)). length ns in
+    let whole = lent_whole c.args.nodes.now.len c.serve.new.nodes c.args.nodes.now.items (c.serve.auto.nodes ∙ ap long c.deref_mut.ensures.value) (sym c.deref_mut.ensures.len ∙ ap long c.deref_mut.ensures.value) in
+    subst (λ (ns : List (Standing g.row.J.Denot g.row.P.Denot)). IfOk c.serve.result (λ (driven : Driven).
+    StandAfter (job (shape c.args.config) c.args.run c.args.items.now c.args.kept.items) driven.history.events (map (cluster_node g.J.Journal.state) ns)))
+    (sym whole) c.serve.ensures.nodes
+
+pub returns-clause-stopped : goal.returns-clause-stopped
+returns-clause-stopped g c =
+    let long = λ (ns : List (Standing g.row.J.Denot g.row.P.Denot)). length ns in
+    let whole = lent_whole c.args.nodes.now.len c.serve.new.nodes c.args.nodes.now.items (c.serve.auto.nodes ∙ ap long c.deref_mut.ensures.value) (sym c.deref_mut.ensures.len ∙ ap long c.deref_mut.ensures.value) in
+    subst (λ (ns : List (Standing g.row.J.Denot g.row.P.Denot)). IfErr c.serve.result (λ (stop : DriveStop).
+    IsStoppedRun (job (shape c.args.config) c.args.run c.args.items.now c.args.kept.items) (map (cluster_node g.J.Journal.state) ns) stop))
+    (sym whole) c.serve.ensures.stopped

@@ -1,0 +1,145 @@
+use Rattle.std.proofs.Common.{◌≡◌, ℕ, List, [], length, map, refl, sym, ap, subst, arith, ◌∙◌}
+use Rattle.std.proofs.lemmas.List.{length-map}
+use Rattle.core_step.specs.Standing.{cluster_node}
+use Rattle.command_frame.specs.declared.replies.Reply.{Reply}
+use Rattle.history_frame.specs.declared.events.Event.{Event}
+use Rattle.history_frame.specs.declared.events.History.{History}
+use Rattle.history_frame.specs.declared.events.Kept.{Kept}
+use Rattle.log_base.specs.declared.cluster_shape.Config.{Config}
+use Rattle.log_base.specs.Shape.{shape}
+use Rattle.node_model.specs.Legal.{IsLegal}
+use Rattle.node_model.specs.Sound.{payloads_on}
+use Rattle.serial_schedule.specs.Driven.{IsDriven, replies_of}
+use Rattle.serial_schedule.proofs.RunLaws.{replies_all}
+use Rattle.quiet_run.specs.declared.outcomes.DriveStop.{DriveStop}
+use Rattle.quiet_run.specs.declared.outcomes.DriveStop.TheVariants.{Memory}
+use Rattle.quiet_run.specs.Running.{IsBeginning, IsOver, IsUnderWay, job_of}
+use Rattle.quiet_run.specs.Runs.{IsKnownAtMost, IsStoppedRun, IsWithinLimits}
+use Rattle.quiet_run.specs.Standing.{IsJob, Job, StandAfter, job}
+use Rattle.quiet_run.proofs.Ending.{at_first_so_far, most_is_known, nodes_some, under_way_at_first, within_limits}
+use Rattle.quiet_run.proofs.Going.{if_err_with, stopped_before}
+use Rattle.quiet_run.proofs.serving.serve.Goals as goal
+
+pub returns-in_err-running-clause-stopped : goal.returns-in_err-running-clause-stopped
+returns-in_err-running-clause-stopped g c =
+    let a_job = job (shape c.args.config) c.args.run c.args.items.now c.args.kept.items in
+    let is_job : IsJob a_job = record { is_run = record { in_range = c.args.config.in_range; run_fits = c.requires.run.1; few = c.requires.few; each = c.requires.items }; sound = c.requires.sound } in
+    let nodes = map (cluster_node {P = g.row.P.Denot} g.J.Journal.state) c.args.nodes.now in
+    if_err_with c.from_residual.result (λ (stop : DriveStop). stop ≡ Memory) (λ (stop : DriveStop). IsStoppedRun a_job nodes stop)
+    (λ stop e. subst (IsStoppedRun a_job nodes) (sym e) (stopped_before a_job [] nodes nodes (at_first_so_far a_job nodes is_job c.requires.nodes) refl))
+    c.from_residual.ensures.1
+
+pub run_to_end-requires : goal.run_to_end-requires
+run_to_end-requires g c =
+    let a_job = job (shape c.args.config) c.args.run c.args.items.now c.args.kept.items in
+    let is_job : IsJob a_job = record { is_run = record { in_range = c.args.config.in_range; run_fits = c.requires.run.1; few = c.requires.few; each = c.requires.items }; sound = c.requires.sound } in
+    let nodes = map (cluster_node {P = g.row.P.Denot} g.J.Journal.state) c.args.nodes.now in
+    let begins = subst (λ (k : List Kept). IsBeginning (job (shape c.args.config) c.args.run c.args.items.now k) c.in_ok-running.running) c.deref.ensures.value c.in_ok-running.ensures in
+    subst (λ (j : Job). IsUnderWay j c.in_ok-running.running nodes) (sym begins.job_is) (under_way_at_first a_job nodes is_job c.requires.nodes c.in_ok-running.running begins)
+
+pub returns-in_err-run_to_end-clause-stopped : goal.returns-in_err-run_to_end-clause-stopped
+returns-in_err-run_to_end-clause-stopped g c =
+    let a_job = job (shape c.args.config) c.args.run c.args.items.now c.args.kept.items in
+    let begins = subst (λ (k : List Kept). IsBeginning (job (shape c.args.config) c.args.run c.args.items.now k) c.in_ok-running.running) c.deref.ensures.value c.in_ok-running.ensures in
+    let new = map (cluster_node {P = g.row.P.Denot} g.J.Journal.state) c.run_to_end.new.nodes in
+    if_err_with c.from_residual-in_err-run_to_end.result (λ (stop : DriveStop). stop ≡ c.in_err-run_to_end.field-0.0) (λ (stop : DriveStop). IsStoppedRun a_job new stop)
+    (λ stop e. subst (IsStoppedRun a_job new) (sym e) (subst (λ (j : Job). IsStoppedRun j new c.in_err-run_to_end.field-0.0) begins.job_is c.in_err-run_to_end.ensures.err))
+    c.from_residual-in_err-run_to_end.ensures.1
+
+pub finish-requires : goal.finish-requires
+finish-requires g c =
+    let a_job = job (shape c.args.config) c.args.run c.args.items.now c.args.kept.items in
+    let begins = subst (λ (k : List Kept). IsBeginning (job (shape c.args.config) c.args.run c.args.items.now k) c.in_ok-running.running) c.deref.ensures.value c.in_ok-running.ensures in
+    let new = map (cluster_node {P = g.row.P.Denot} g.J.Journal.state) c.run_to_end.new.nodes in
+    let is : job_of c.run_to_end.new.running ≡ a_job = c.in_ok-run_to_end.ensures.same ∙ begins.job_is in
+    let events = c.run_to_end.new.running.events.items in
+    let over = subst (λ (j : Job). IsOver j c.run_to_end.new.running.events.items c.run_to_end.new.running.bytes c.run_to_end.new.running.schedule.replies new) is c.in_ok-run_to_end.ensures.over in
+    let some = nodes_some a_job.config over.way.is_job.is_run.in_range in
+    let all = over.way.so_far.stand.all in
+    omega (arith, some, all, length-map c.run_to_end.new.nodes (cluster_node {P = g.row.P.Denot} g.J.Journal.state))
+
+pub returns-clause-given : goal.returns-clause-given
+returns-clause-given g c =
+    (ap (λ (h : History). h.config) c.finish.ensures.history, ap (λ (h : History). h.run) c.finish.ensures.history, ap (λ (h : History). h.kept) c.finish.ensures.history ∙ c.of.ensures)
+
+pub returns-clause-lawful : goal.returns-clause-lawful
+returns-clause-lawful g c =
+    let a_job = job (shape c.args.config) c.args.run c.args.items.now c.args.kept.items in
+    let begins = subst (λ (k : List Kept). IsBeginning (job (shape c.args.config) c.args.run c.args.items.now k) c.in_ok-running.running) c.deref.ensures.value c.in_ok-running.ensures in
+    let new = map (cluster_node {P = g.row.P.Denot} g.J.Journal.state) c.run_to_end.new.nodes in
+    let is : job_of c.run_to_end.new.running ≡ a_job = c.in_ok-run_to_end.ensures.same ∙ begins.job_is in
+    let events = c.run_to_end.new.running.events.items in
+    let over = subst (λ (j : Job). IsOver j c.run_to_end.new.running.events.items c.run_to_end.new.running.bytes c.run_to_end.new.running.schedule.replies new) is c.in_ok-run_to_end.ensures.over in
+    let events_are : c.finish.result.history.events ≡ c.run_to_end.new.running.events.items = ap (λ (h : History). h.events) c.finish.ensures.history ∙ c.of-2.ensures in
+    let config_is : c.finish.result.history.config ≡ c.args.config = ap (λ (h : History). h.config) c.finish.ensures.history in
+    let run_is : c.finish.result.history.run ≡ c.args.run = ap (λ (h : History). h.run) c.finish.ensures.history in
+    let kept_are : c.finish.result.history.kept ≡ c.args.kept.items = ap (λ (h : History). h.kept) c.finish.ensures.history ∙ c.of.ensures in
+    subst (λ (x : Config × ℕ × List Kept × List Event). IsLegal (shape x.0) x.1 (payloads_on x.2) x.3) (λ i. (sym config_is i, sym run_is i, sym kept_are i, sym events_are i)) over.way.so_far.legal
+
+pub returns-clause-driven : goal.returns-clause-driven
+returns-clause-driven g c =
+    let a_job = job (shape c.args.config) c.args.run c.args.items.now c.args.kept.items in
+    let begins = subst (λ (k : List Kept). IsBeginning (job (shape c.args.config) c.args.run c.args.items.now k) c.in_ok-running.running) c.deref.ensures.value c.in_ok-running.ensures in
+    let new = map (cluster_node {P = g.row.P.Denot} g.J.Journal.state) c.run_to_end.new.nodes in
+    let is : job_of c.run_to_end.new.running ≡ a_job = c.in_ok-run_to_end.ensures.same ∙ begins.job_is in
+    let events = c.run_to_end.new.running.events.items in
+    let over = subst (λ (j : Job). IsOver j c.run_to_end.new.running.events.items c.run_to_end.new.running.bytes c.run_to_end.new.running.schedule.replies new) is c.in_ok-run_to_end.ensures.over in
+    let events_are : c.finish.result.history.events ≡ c.run_to_end.new.running.events.items = ap (λ (h : History). h.events) c.finish.ensures.history ∙ c.of-2.ensures in
+    subst (λ (es : List Event). IsDriven (shape c.args.config) c.args.run c.args.items.now es) (sym events_are) (record { followed = over.way.so_far.followed; over = over.over })
+
+pub returns-clause-replies : goal.returns-clause-replies
+returns-clause-replies g c =
+    let a_job = job (shape c.args.config) c.args.run c.args.items.now c.args.kept.items in
+    let begins = subst (λ (k : List Kept). IsBeginning (job (shape c.args.config) c.args.run c.args.items.now k) c.in_ok-running.running) c.deref.ensures.value c.in_ok-running.ensures in
+    let new = map (cluster_node {P = g.row.P.Denot} g.J.Journal.state) c.run_to_end.new.nodes in
+    let is : job_of c.run_to_end.new.running ≡ a_job = c.in_ok-run_to_end.ensures.same ∙ begins.job_is in
+    let events = c.run_to_end.new.running.events.items in
+    let over = subst (λ (j : Job). IsOver j c.run_to_end.new.running.events.items c.run_to_end.new.running.bytes c.run_to_end.new.running.schedule.replies new) is c.in_ok-run_to_end.ensures.over in
+    let events_are : c.finish.result.history.events ≡ c.run_to_end.new.running.events.items = ap (λ (h : History). h.events) c.finish.ensures.history ∙ c.of-2.ensures in
+    let replies_are : c.finish.result.replies ≡ replies_of (shape c.args.config) c.args.run c.args.items.now events = c.finish.ensures.replies ∙ c.into_replies-replies.ensures ∙ over.replies_are in
+    replies_are ∙ ap (λ (es : List Event). replies_of (shape c.args.config) c.args.run c.args.items.now es) (sym events_are)
+
+pub returns-clause-each : goal.returns-clause-each
+returns-clause-each g c =
+    let a_job = job (shape c.args.config) c.args.run c.args.items.now c.args.kept.items in
+    let begins = subst (λ (k : List Kept). IsBeginning (job (shape c.args.config) c.args.run c.args.items.now k) c.in_ok-running.running) c.deref.ensures.value c.in_ok-running.ensures in
+    let new = map (cluster_node {P = g.row.P.Denot} g.J.Journal.state) c.run_to_end.new.nodes in
+    let is : job_of c.run_to_end.new.running ≡ a_job = c.in_ok-run_to_end.ensures.same ∙ begins.job_is in
+    let events = c.run_to_end.new.running.events.items in
+    let over = subst (λ (j : Job). IsOver j c.run_to_end.new.running.events.items c.run_to_end.new.running.bytes c.run_to_end.new.running.schedule.replies new) is c.in_ok-run_to_end.ensures.over in
+    let replies_are : c.finish.result.replies ≡ replies_of (shape c.args.config) c.args.run c.args.items.now events = c.finish.ensures.replies ∙ c.into_replies-replies.ensures ∙ over.replies_are in
+    ap (λ (l : List Reply). length l) replies_are ∙ replies_all (shape c.args.config) c.args.run c.args.items.now events over.over
+
+pub returns-clause-nodes : goal.returns-clause-nodes
+returns-clause-nodes g c =
+    let a_job = job (shape c.args.config) c.args.run c.args.items.now c.args.kept.items in
+    let begins = subst (λ (k : List Kept). IsBeginning (job (shape c.args.config) c.args.run c.args.items.now k) c.in_ok-running.running) c.deref.ensures.value c.in_ok-running.ensures in
+    let new = map (cluster_node {P = g.row.P.Denot} g.J.Journal.state) c.run_to_end.new.nodes in
+    let is : job_of c.run_to_end.new.running ≡ a_job = c.in_ok-run_to_end.ensures.same ∙ begins.job_is in
+    let events = c.run_to_end.new.running.events.items in
+    let over = subst (λ (j : Job). IsOver j c.run_to_end.new.running.events.items c.run_to_end.new.running.bytes c.run_to_end.new.running.schedule.replies new) is c.in_ok-run_to_end.ensures.over in
+    let events_are : c.finish.result.history.events ≡ c.run_to_end.new.running.events.items = ap (λ (h : History). h.events) c.finish.ensures.history ∙ c.of-2.ensures in
+    subst (λ (es : List Event). StandAfter a_job es new) (sym events_are) over.way.so_far.stand
+
+pub returns-clause-limits : goal.returns-clause-limits
+returns-clause-limits g c =
+    let a_job = job (shape c.args.config) c.args.run c.args.items.now c.args.kept.items in
+    let begins = subst (λ (k : List Kept). IsBeginning (job (shape c.args.config) c.args.run c.args.items.now k) c.in_ok-running.running) c.deref.ensures.value c.in_ok-running.ensures in
+    let new = map (cluster_node {P = g.row.P.Denot} g.J.Journal.state) c.run_to_end.new.nodes in
+    let is : job_of c.run_to_end.new.running ≡ a_job = c.in_ok-run_to_end.ensures.same ∙ begins.job_is in
+    let events = c.run_to_end.new.running.events.items in
+    let over = subst (λ (j : Job). IsOver j c.run_to_end.new.running.events.items c.run_to_end.new.running.bytes c.run_to_end.new.running.schedule.replies new) is c.in_ok-run_to_end.ensures.over in
+    let events_are : c.finish.result.history.events ≡ c.run_to_end.new.running.events.items = ap (λ (h : History). h.events) c.finish.ensures.history ∙ c.of-2.ensures in
+    subst (λ (es : List Event). IsWithinLimits a_job es) (sym events_are) (within_limits a_job events over.way.no_limit over.none)
+
+pub returns-clause-known : goal.returns-clause-known
+returns-clause-known g c =
+    let a_job = job (shape c.args.config) c.args.run c.args.items.now c.args.kept.items in
+    let begins = subst (λ (k : List Kept). IsBeginning (job (shape c.args.config) c.args.run c.args.items.now k) c.in_ok-running.running) c.deref.ensures.value c.in_ok-running.ensures in
+    let new = map (cluster_node {P = g.row.P.Denot} g.J.Journal.state) c.run_to_end.new.nodes in
+    let is : job_of c.run_to_end.new.running ≡ a_job = c.in_ok-run_to_end.ensures.same ∙ begins.job_is in
+    let events = c.run_to_end.new.running.events.items in
+    let over = subst (λ (j : Job). IsOver j c.run_to_end.new.running.events.items c.run_to_end.new.running.bytes c.run_to_end.new.running.schedule.replies new) is c.in_ok-run_to_end.ensures.over in
+    let events_are : c.finish.result.history.events ≡ c.run_to_end.new.running.events.items = ap (λ (h : History). h.events) c.finish.ensures.history ∙ c.of-2.ensures in
+    subst (λ (es : List Event). IsKnownAtMost a_job es c.finish.result.known c.finish.result.end.0 c.finish.result.trim.0) (sym events_are)
+    (most_is_known a_job events new c.finish.result.known c.finish.result.end.0 c.finish.result.trim.0 over.way.so_far.stand c.finish.ensures.known)

@@ -1,0 +1,141 @@
+//! Serving items from the opening of the nodes to the last reply.
+
+ghost use Rattle.std.specs.Prelude.{◌≡◌, ◌<◌, ◌≤◌, [], length, map, OnOk, IfOk, IfErr};
+ghost use Rattle.std.specs.List.{AllByRecursion};
+ghost use Rattle.command_frame.specs.Items.{IsItem};
+ghost use Rattle.core_step.specs.Standing.{cluster_node};
+ghost use Rattle.log_base.specs.Shape.{shape};
+ghost use Rattle.node_model.specs.Legal.{IsLawful};
+ghost use Rattle.node_model.specs.Sound.{IsSound, payloads_on};
+ghost use Rattle.serial_schedule.specs.Driven.{IsDriven, replies_of};
+ghost use Rattle.quiet_run.specs.Running.{IsOver, IsUnderWay, job_of};
+ghost use Rattle.quiet_run.specs.Runs.{IsKnownAtMost, IsStoppedRun, IsWithinLimits, KnowsMost};
+ghost use Rattle.quiet_run.specs.Standing.{StandAfter, job};
+
+use crate::knowing::first_to_know_most;
+use crate::outcomes::{DriveStop, Driven};
+use crate::running::{Running, begin};
+use command_frame::{Item, Reply};
+use core_step::Node;
+use cut_chain::Places;
+use history_frame::{History, Kept};
+use log_base::{Config, List};
+use segment_journal::Journal;
+use std::alloc::Global;
+
+/// Serves items on the nodes of a cluster, from their opening to the last reply. The nodes are down and hold what
+/// their disks kept, which is sound.
+///
+/// After a stop the nodes stand where the events so far left them, and what was kept is dropped.
+pub fn drive<J: Journal + Drop, P: Places>(
+    alloc: Global,
+    config: Config,
+    run: u32,
+    items: &[Item],
+    kept: Vec<Kept>,
+    nodes: &mut Vec<Node<J, P>>,
+) -> Result<Driven, DriveStop>
+    requires run { (1 ≤ run) × (run ≤ 1000000) }
+    requires few { length items.now ≤ 65536 }
+    requires items { AllByRecursion (IsItem (shape config)) items.now }
+    requires sound { IsSound (shape config) run (payloads_on kept.items) }
+    requires nodes { StandAfter (job (shape config) run items.now kept.items) [] (map (cluster_node J.state) nodes.old.items) }
+    ensures given { IfOk result (λ driven. (driven.history.config ≡ config) × (driven.history.run ≡ run) × (driven.history.kept ≡ kept.items)) }
+    ensures lawful { IfOk result (λ driven. IsLawful driven.history) }
+    ensures driven { IfOk result (λ driven. IsDriven (shape config) run items.now driven.history.events) }
+    ensures replies { IfOk result (λ driven. driven.replies ≡ replies_of (shape config) run items.now driven.history.events) }
+    ensures each { IfOk result (λ driven. length driven.replies ≡ length items.now) }
+    ensures nodes { IfOk result (λ driven.
+        StandAfter (job (shape config) run items.now kept.items) driven.history.events (map (cluster_node J.state) nodes.new.items)) }
+    ensures limits { IfOk result (λ driven. IsWithinLimits (job (shape config) run items.now kept.items) driven.history.events) }
+    ensures known { IfOk result (λ driven.
+        IsKnownAtMost (job (shape config) run items.now kept.items) driven.history.events driven.known driven.end.0 driven.trim.0) }
+    ensures stopped { IfErr result (λ stop. IsStoppedRun (job (shape config) run items.now kept.items) (map (cluster_node J.state) nodes.new.items) stop) }
+{
+    serve(alloc, config, run, items, kept, nodes)
+}
+
+/// The same for the nodes of a slice.
+fn serve<J: Journal + Drop, P: Places>(
+    alloc: Global,
+    config: Config,
+    run: u32,
+    items: &[Item],
+    kept: Vec<Kept>,
+    nodes: &mut [Node<J, P>],
+) -> Result<Driven, DriveStop>
+    requires run { (1 ≤ run) × (run ≤ 1000000) }
+    requires few { length items.now ≤ 65536 }
+    requires items { AllByRecursion (IsItem (shape config)) items.now }
+    requires sound { IsSound (shape config) run (payloads_on kept.items) }
+    requires nodes { StandAfter (job (shape config) run items.now kept.items) [] (map (cluster_node J.state) nodes.old) }
+    ensures given { IfOk result (λ driven. (driven.history.config ≡ config) × (driven.history.run ≡ run) × (driven.history.kept ≡ kept.items)) }
+    ensures lawful { IfOk result (λ driven. IsLawful driven.history) }
+    ensures driven { IfOk result (λ driven. IsDriven (shape config) run items.now driven.history.events) }
+    ensures replies { IfOk result (λ driven. driven.replies ≡ replies_of (shape config) run items.now driven.history.events) }
+    ensures each { IfOk result (λ driven. length driven.replies ≡ length items.now) }
+    ensures nodes { IfOk result (λ driven.
+        StandAfter (job (shape config) run items.now kept.items) driven.history.events (map (cluster_node J.state) nodes.new)) }
+    ensures limits { IfOk result (λ driven. IsWithinLimits (job (shape config) run items.now kept.items) driven.history.events) }
+    ensures known { IfOk result (λ driven.
+        IsKnownAtMost (job (shape config) run items.now kept.items) driven.history.events driven.known driven.end.0 driven.trim.0) }
+    ensures stopped { IfErr result (λ stop. IsStoppedRun (job (shape config) run items.now kept.items) (map (cluster_node J.state) nodes.new) stop) }
+{
+    let mut running = begin(alloc, config, run, items, &kept)?;
+    run_to_end(&mut running, nodes)?;
+    let Running {
+        alloc: _,
+        config: _,
+        run: _,
+        items: _,
+        kept: _,
+        schedule,
+        events,
+        bytes: _,
+    } = running;
+    let replies = schedule.into_replies();
+    let history = History {
+        config,
+        run,
+        kept: List::of(kept),
+        events: List::of(events),
+    };
+    Ok(finish(history, replies, nodes))
+}
+
+/// Goes on until no turn comes.
+fn run_to_end<J: Journal + Drop, P: Places>(
+    running: &mut Running,
+    nodes: &mut [Node<J, P>],
+) -> Result<(), DriveStop>
+    requires { IsUnderWay (job_of running.old) running.old (map (cluster_node J.state) nodes.old) }
+    ensures over { OnOk result (IsOver (job_of running.new) running.new.events.items running.new.bytes running.new.schedule.replies
+        (map (cluster_node J.state) nodes.new)) }
+    ensures same { OnOk result (job_of running.new ≡ job_of running.old) }
+    ensures err { IfErr result (λ stop. IsStoppedRun (job_of running.old) (map (cluster_node J.state) nodes.new) stop) }
+{
+    'turns: while running.go_on(nodes)? {}
+    Ok(())
+}
+
+/// The history of a run that is over, its replies, and what the lowest of the nodes with the most known values
+/// knows.
+fn finish<J: Journal, P: Places>(
+    history: History,
+    replies: Vec<Reply>,
+    nodes: &[Node<J, P>],
+) -> Driven
+    requires { 0 < length nodes.now }
+    ensures history { result.history ≡ history }
+    ensures replies { result.replies ≡ replies.items }
+    ensures known { KnowsMost (map (cluster_node J.state) nodes.now) result.known result.end.0 result.trim.0 }
+{
+    let node = &nodes[first_to_know_most(nodes)];
+    Driven {
+        history,
+        replies: List::of(replies),
+        known: node.known(),
+        end: node.end(),
+        trim: node.trim(),
+    }
+}

@@ -1,0 +1,61 @@
+//! Taking the turns of a run, one by one.
+
+ghost use Rattle.std.specs.Prelude.{◌≡◌, ◌+◌, length, map, Ok, true, false, OnOk, OnErr, IfErr};
+ghost use Rattle.core_step.specs.Standing.{cluster_node};
+ghost use Rattle.quiet_run.specs.declared.outcomes.DriveStop.TheVariants.{Memory as Want};
+ghost use Rattle.quiet_run.specs.Running.{HasGoneOn, IsOnItsWay, IsOver, IsTurnDue, job_of, scheduled_in};
+ghost use Rattle.quiet_run.specs.Runs.{IsStoppedRun};
+
+use crate::limits::{is_one_full, limit_at};
+use crate::outcomes::DriveStop;
+use crate::running::Running;
+use crate::turning::take_turn;
+use core_step::Node;
+use cut_chain::Places;
+use log_base::{Memory, Outbox};
+use segment_journal::Journal;
+use serial_schedule::Turn;
+
+impl<'a> Running<'a> {
+    /// The next turn, if one comes. Whether one came is answered.
+    pub fn go_on<J: Journal + Drop, P: Places>(
+        &mut self,
+        nodes: &mut [Node<J, P>],
+    ) -> Result<bool, DriveStop>
+        requires way { IsOnItsWay (job_of self.old) self.old.events.items self.old.bytes (map (cluster_node J.state) nodes.old) }
+        requires scheduled { self.old.schedule ≡ scheduled_in (job_of self.old) self.old.events.items }
+        ensures more { result ≡ Ok true → HasGoneOn self.old self.new (map (cluster_node J.state) nodes.new) }
+        ensures over { result ≡ Ok false → IsOver (job_of self.new) self.new.events.items self.new.bytes self.new.schedule.replies (map (cluster_node J.state) nodes.new) }
+        ensures same { result ≡ Ok false → job_of self.new ≡ job_of self.old }
+        ensures err { IfErr result (λ stop. IsStoppedRun (job_of self.old) (map (cluster_node J.state) nodes.new) stop) }
+    {
+        let next = self.schedule.next()?;
+        let full = is_one_full(nodes);
+        if let Some(cause) = limit_at(next.is_some(), self.events.len(), full, self.bytes) {
+            return Err(DriveStop::Limit { cause });
+        }
+        match next {
+            Some(turn) => {
+                self.take(turn, nodes)?;
+                return Ok(true);
+            }
+            None => return Ok(false),
+        }
+    }
+
+    /// The node whose turn has come takes it, and what happened is kept.
+    fn take<J: Journal + Drop, P: Places>(
+        &mut self,
+        turn: Turn,
+        nodes: &mut [Node<J, P>],
+    ) -> Result<(), Memory>
+        requires way { IsOnItsWay (job_of self.old) self.old.events.items self.old.bytes (map (cluster_node J.state) nodes.old) }
+        requires due { IsTurnDue (job_of self.old) self.old.events.items self.old.schedule turn }
+        ensures ok { OnOk result (HasGoneOn self.old self.new (map (cluster_node J.state) nodes.new)) }
+        ensures err { OnErr result (IsStoppedRun (job_of self.old) (map (cluster_node J.state) nodes.new) Want) }
+    {
+        let mut out = Outbox::new(self.alloc);
+        let happened = take_turn(nodes, usize::from(turn.node.0), turn.input, &mut out)?;
+        self.keep(turn.node, happened, &mut out)
+    }
+}
