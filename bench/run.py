@@ -11,6 +11,7 @@ TOP = os.path.dirname(os.path.dirname(os.path.abspath(__file__)))
 CRATE = os.path.join(TOP, "crates", "scalog")
 SIZES = (1_024, 4_096, 15_000)
 ROUNDS = 9
+REPLICAS, SHARDS, APPENDS = 3, 4, 2_000
 
 
 def frame(kind, body):
@@ -28,6 +29,15 @@ def items(count):
         else:
             out.append(frame(1, lane + bytes([0, 0, 0]) + bytes([97 + i % 26]) * 100))
             appended += 1
+    return b"".join(out)
+
+
+def cluster_items():
+    """An addition of each shard, then appends of 100 bytes to each replica of each shard in turn."""
+    out = [frame(5, bytes([0]) + shard.to_bytes(2, "big")) for shard in range(SHARDS)]
+    for i in range(APPENDS):
+        shard, replica = i % SHARDS, i // SHARDS % REPLICAS
+        out.append(frame(1, bytes([i % 64]) + shard.to_bytes(2, "big") + bytes([replica]) + bytes([97 + i % 26]) * 100))
     return b"".join(out)
 
 
@@ -73,7 +83,16 @@ def main():
                 f"{count:>7} {os.path.getsize(path):>10} {count / best:>10.0f} {best / count * 1e6:>9.2f}"
                 f" {peak:>8} {best / best_cat:>7.1f}"
             )
+        path = os.path.join(folder, "cluster")
+        with open(path, "wb") as out:
+            out.write(cluster_items())
+        shape = ["run", "--replicas", str(REPLICAS), "--shards", str(SHARDS)]
+        wall, memory = min(timed(scalog[:1] + shape, path) for _ in range(ROUNDS))
     print(f"time per item, {SIZES[-1]} items against {SIZES[0]}: {per_item[-1] / per_item[0]:.2f}")
+    print(
+        f"{APPENDS} appends on {REPLICAS} replicas of {SHARDS} shards: {wall:.3f} s,"
+        f" {wall / APPENDS * 1e6:.2f} us each, peak {memory} KB"
+    )
 
 
 if __name__ == "__main__":

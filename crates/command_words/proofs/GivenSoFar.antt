@@ -1,16 +1,18 @@
 -- What is given by the options that are read so far.
-use Rattle.std.proofs.Common.{◌≡◌, ◌≢◌, ℕ, ◌<◌, List, [], ◌∷◌, ◌++◌, length, true, false, refl, sym, ◌∙◌, ap, subst, append_assoc, arith}
+use Rattle.std.proofs.Common.{◌≡◌, ◌≢◌, ℕ, ◌<◌, Bool, List, [], ◌∷◌, ◌++◌, length, true, false, refl, sym, ◌∙◌, ap, subst, append_assoc, arith}
 use Rattle.std.specs.Bool.{IsTrue}
+use Rattle.std.specs.Prelude.{IsSome}
 use Rattle.std.specs.List.{AllByRecursion, flat_map}
 use Rattle.std.proofs.lemmas.List.{append-nil}
 use Rattle.std.proofs.lemmas.List.Concat.{flat_map-append}
 use Rattle.command_words.specs.declared.given.Given.{Given}
 use Rattle.command_words.specs.declared.setting.Setting.{Setting}
+use Rattle.command_words.specs.declared.setting.Setting.TheVariants.{Folder}
 use Rattle.command_words.specs.declared.setting.Verb.{Verb}
 use Rattle.command_words.specs.Commands.{Gives}
-use Rattle.command_words.specs.Settings.{IsSetting, Once, given_by, is_given, nothing, setting_words, takes, with_setting}
+use Rattle.command_words.specs.Settings.{IsFolder, IsSetting, Once, given_by, is_given, nothing, option_word, setting_words, takes, with_setting}
 use Rattle.command_words.proofs.OneSetting.{front, one_list, one_setting}
-use Rattle.command_words.proofs.SettingsGiven.{all_at, all_push, given_by-push, is_in, not_in, once_at, once_push}
+use Rattle.command_words.proofs.SettingsGiven.{Without, all_at, all_push, given_by-push, is_in, not_in, once_at, once_push}
 
 -- the words so far are options of the command that give this, and the rest is behind them
 pub record SoFar (command : Verb) (words rest : List (List ℕ)) (given : Given) : Type 0 where
@@ -77,6 +79,19 @@ module _ (command : Verb) (words rest : List (List ℕ)) (given : Given) (so_far
       let next = next_is setting more is begins gives.0 gives.1.are_settings gives.1.words_are in
       once_at so_far.settings next.0 setting (subst Once next.1 gives.1.once)
       (is_in so_far.settings setting (ap (λ (g : Given). is_given g setting) (sym so_far.gives) ∙ present))
+
+  -- it begins with a folder
+  pub folder_given : (path : List ℕ) (more : List (List ℕ)) → IsFolder path → rest ≡ setting_words (Folder path) ++ more
+      → (other : Given) → Gives command words other → IsSome other.folder
+  folder_given path more is begins other gives =
+      let next = next_is (Folder path) more is begins gives.0 gives.1.are_settings gives.1.words_are in
+      by (is_given other (Folder path)) refl
+      (λ absent. all_at (λ s. option_word s ≢ option_word (Folder path)) so_far.settings next.0 (Folder path)
+      (subst (λ (all : List Setting). Without (Folder path) all) next.1 (not_in gives.0 (Folder path) (ap (λ (g : Given). is_given g (Folder path)) (sym gives.2) ∙ absent))) refl)
+    where
+      by : (b : Bool) → is_given other (Folder path) ≡ b → (is_given other (Folder path) ≡ false → ⊥) → IsSome other.folder
+      by true is not = is
+      by false is not = absurd (not is)
 
   -- it begins with one that may be given too
   pub goes_on_with : (setting : Setting) (more : List (List ℕ)) (now : Given) → IsSetting setting → rest ≡ setting_words setting ++ more

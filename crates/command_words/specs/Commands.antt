@@ -1,5 +1,5 @@
 -- Which lists of words are which command, with which options. A word is the list of its bytes.
-use Rattle.std.specs.Prelude.{◌≡◌, ℕ, ◌^◌, ◌<◌, ◌≤◌, List, [], ◌∷◌, codes, unwrap_or, IsTrue}
+use Rattle.std.specs.Prelude.{◌≡◌, ℕ, ◌^◌, ◌<◌, ◌≤◌, List, [], ◌∷◌, codes, unwrap_or, IsSome, IsTrue}
 use Rattle.std.specs.List.{AllByRecursion, flat_map}
 use Rattle.std.specs.Fmt.{decimal}
 use Rattle.log_base.specs.ClusterShape.{Shape}
@@ -63,3 +63,10 @@ Spells words (Run options) = (rest : List (List ℕ)) × (words ≡ codes "run" 
 Spells words (Cluster options) = (rest : List (List ℕ)) × (words ≡ codes "cluster" ∷ rest) × Chooses verb.Cluster rest options
 Spells words Check = words ≡ codes "check" ∷ []
 Spells words (Make options seed count) = (rest : List (List ℕ)) × (words ≡ codes "make" ∷ rest) × Makes rest options seed count
+
+-- the command names a folder
+abbrev pub HasFolder : Command → Type 0
+HasFolder (Run options) = IsSome options.folder
+HasFolder (Cluster options) = IsSome options.folder
+HasFolder Check = ⊥
+HasFolder (Make options seed count) = IsSome options.folder

@@ -1,6 +1,6 @@
 //! What the options of a command give.
 
-ghost use Rattle.std.specs.Prelude.{◌≡◌, Some, Ok, Err, true, false, is_some, OnOk, MatchOption};
+ghost use Rattle.std.specs.Prelude.{◌≡◌, ◌≢◌, Some, Ok, Err, true, false, is_some, OnOk, MatchOption};
 ghost use Rattle.log_base.specs.ClusterShape.{InRange};
 ghost use Rattle.log_base.specs.Shape.{shape};
 ghost use Rattle.command_words.specs.Commands.{Says};
@@ -52,6 +52,7 @@ impl Given {
     pub fn take(&mut self, setting: Setting) -> Result<(), WordsFault>
         ensures ok { OnOk result ((is_given self.old setting ≡ false) × (self.new ≡ with_setting self.old setting)) }
         ensures twice { result ≡ Err WordsFault.NoCommand → is_given self.old setting ≡ true }
+        ensures memory { result ≢ Err WordsFault.Memory }
     {
         match setting {
             Setting::Number { parameter, number } => self.take_number(parameter, number),
@@ -75,6 +76,7 @@ impl Given {
     fn take_number(&mut self, parameter: Parameter, number: u64) -> Result<(), WordsFault>
         ensures ok { OnOk result ((is_some (number_given self.old parameter) ≡ false) × (self.new ≡ with_number self.old parameter number)) }
         ensures twice { result ≡ Err WordsFault.NoCommand → is_some (number_given self.old parameter) ≡ true }
+        ensures memory { result ≢ Err WordsFault.Memory }
     {
         match parameter {
             Parameter::Replicas => put(&mut self.replicas, number),

@@ -1,7 +1,7 @@
 //! Reading the words.
 
-ghost use Rattle.std.specs.Prelude.{◌≡◌, ◌++◌, ℕ, List, map, string_bytes, Ok, Err, IfOk};
-ghost use Rattle.command_words.specs.Commands.{Chooses, Gives, Makes, Spells};
+ghost use Rattle.std.specs.Prelude.{◌≡◌, ◌++◌, ℕ, List, map, string_bytes, Ok, Err, IsSome, IfOk};
+ghost use Rattle.command_words.specs.Commands.{Chooses, Gives, HasFolder, Makes, Spells};
 ghost use Rattle.command_words.specs.declared.command.Command.{Command};
 ghost use Rattle.command_words.specs.declared.command.Options.{Options};
 ghost use Rattle.command_words.specs.declared.given.Given.{Given};
@@ -19,6 +19,7 @@ const MOST_MADE: u32 = 60_000;
 pub fn read_words(alloc: Global, words: &[String]) -> Result<Command, WordsFault>
     ensures command { IfOk result (Spells (map string_bytes words.now)) }
     ensures none { result ≡ Err WordsFault.NoCommand → (command : Command) → Spells (map string_bytes words.now) command → ⊥ }
+    ensures memory { result ≡ Err WordsFault.Memory → (command : Command) → Spells (map string_bytes words.now) command → HasFolder command }
 {
     let Some((verb, rest)) = words.split_first() else {
         return Err(WordsFault::NoCommand);
@@ -49,6 +50,8 @@ fn read_make(alloc: Global, words: &[String]) -> Result<Command, WordsFault>
         × (command ≡ Command.Make options seed count) × Makes (map string_bytes words.now) options seed count) }
     ensures none { result ≡ Err WordsFault.NoCommand → (options : Options) (seed count : ℕ)
         → Makes (map string_bytes words.now) options seed count → ⊥ }
+    ensures memory { result ≡ Err WordsFault.Memory → (options : Options) (seed count : ℕ)
+        → Makes (map string_bytes words.now) options seed count → IsSome options.folder }
 {
     if words.len() < 2 {
         return Err(WordsFault::NoCommand);
@@ -75,6 +78,7 @@ fn read_make(alloc: Global, words: &[String]) -> Result<Command, WordsFault>
 fn read_options(alloc: Global, command: Verb, words: &[String]) -> Result<Options, WordsFault>
     ensures options { IfOk result (Chooses command (map string_bytes words.now)) }
     ensures none { result ≡ Err WordsFault.NoCommand → (options : Options) → Chooses command (map string_bytes words.now) options → ⊥ }
+    ensures memory { result ≡ Err WordsFault.Memory → (options : Options) → Chooses command (map string_bytes words.now) options → IsSome options.folder }
 {
     let given = read_given(alloc, command, words)?;
     match given.options() {
@@ -87,6 +91,7 @@ fn read_options(alloc: Global, command: Verb, words: &[String]) -> Result<Option
 fn read_given(alloc: Global, command: Verb, words: &[String]) -> Result<Given, WordsFault>
     ensures given { IfOk result (Gives command (map string_bytes words.now)) }
     ensures none { result ≡ Err WordsFault.NoCommand → (given : Given) → Gives command (map string_bytes words.now) given → ⊥ }
+    ensures memory { result ≡ Err WordsFault.Memory → (given : Given) → Gives command (map string_bytes words.now) given → IsSome given.folder }
 {
     let mut given = Given::nothing();
     let mut rest = words;

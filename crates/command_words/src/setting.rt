@@ -88,6 +88,8 @@ impl Setting {
             × ((rest : List (List ℕ)) × (map string_bytes words.now ≡ setting_words setting ++ rest))) }
         ensures none { result ≡ Err WordsFault.NoCommand → (setting : Setting) (rest : List (List ℕ)) → IsSetting setting
             → map string_bytes words.now ≢ setting_words setting ++ rest }
+        ensures memory { result ≡ Err WordsFault.Memory → (path : List ℕ) × (rest : List (List ℕ)) × IsFolder path
+            × (map string_bytes words.now ≡ setting_words (Setting.Folder path) ++ rest) }
     {
         let name = words[0].as_str();
         if name == "--brief" {
@@ -117,6 +119,7 @@ impl Setting {
 fn read_folder(alloc: Global, path: &str) -> Result<Setting, WordsFault>
     ensures ok { IfOk result (λ setting. (setting ≡ Setting.Folder path.now) × IsFolder path.now) }
     ensures none { result ≡ Err WordsFault.NoCommand → IsFolder path.now → ⊥ }
+    ensures memory { result ≡ Err WordsFault.Memory → IsFolder path.now }
 {
     if path.is_empty() || path.as_bytes()[0] == b'-' {
         return Err(WordsFault::NoCommand);
@@ -130,6 +133,7 @@ fn read_parameter(name: &str, value: &str) -> Result<Setting, WordsFault>
         × (number < 10 ^ 10) × (name.now ≡ parameter_word parameter) × (value.now ≡ decimal number)) }
     ensures none { result ≡ Err WordsFault.NoCommand → (parameter : Parameter) (number : ℕ) → number < 10 ^ 10
         → name.now ≡ parameter_word parameter → value.now ≡ decimal number → ⊥ }
+    ensures memory { result ≢ Err WordsFault.Memory }
 {
     let parameter = Parameter::named(name).ok_or(WordsFault::NoCommand)?;
     let number = read_number(value).ok_or(WordsFault::NoCommand)?;

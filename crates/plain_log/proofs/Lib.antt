@@ -1,9 +1,6 @@
-pub mod Entries
 pub mod Answering
 pub mod Coherent
 pub mod Lists
-pub mod OneSegment
 pub mod Room
 pub mod Sequence
 pub mod Sizes
-pub mod Stored

@@ -1,5 +1,5 @@
 -- Each item adds at most one to what a log has decided and what its lanes have drawn.
-use Rattle.std.proofs.Common.{ℕ, zero, suc, ◌+◌, ◌≤◌, Bool, true, false, cond, List, [], ◌∷◌, length-append, replicate, arith, inl, inr, subst, sym}
+use Rattle.std.proofs.Common.{ℕ, zero, suc, ◌+◌, ◌≤◌, Bool, true, false, cond, List, [], ◌∷◌, length-append, replicate, arith}
 use Rattle.std.specs.Prelude.{slice_index, slice_set}
 use Rattle.log_base.specs.ClusterShape.{Shape}
 use Rattle.record_frame.specs.declared.values.Value.{Value}
@@ -8,8 +8,6 @@ use Rattle.record_frame.specs.declared.entries.Entry.{Entry}
 use Rattle.command_frame.specs.declared.items.Item.{Item}
 use Rattle.command_frame.specs.declared.items.Item.TheVariants.{Append, Read, Add}
 use Rattle.plain_log.specs.Log.{LogState, start, after, knows, drawn, stored, next_entry}
-use Rattle.command_frame.specs.declared.replies.Reply.{Reply}
-use Rattle.plain_log.specs.Answering.{Answers, Standing}
 use Rattle.plain_log.specs.Halting.{after_down}
 use Rattle.plain_log.specs.Room.{HasRoom}
 
@@ -61,13 +59,3 @@ room_down state (Read lane shard replica position) most room =
     record { values = omega (arith, room.values); draws = λ k. omega (arith, room.draws k) }
 room_down state (Add lane shard) most room =
     record { values = omega (arith, room.values, length-append state.values (AddValue shard ∷ [])); draws = λ k. omega (arith, room.draws k) }
-
--- whatever is answered
-pub room_answered : (shape : Shape) (run : ℕ) (old new : Standing) (item : Item) (reply : Reply) (most : ℕ) → Answers shape run old new item reply
-    → HasRoom old.log most → HasRoom new.log (most + 1)
-room_answered shape run old new item reply most (inl served) room =
-    subst (λ (s : LogState). HasRoom s (most + 1)) (sym served.log) (room_after shape run old.log item most room)
-room_answered shape run old new item reply most (inr (inl halted)) room =
-    subst (λ (s : LogState). HasRoom s (most + 1)) (sym halted.log) (room_down old.log item most room)
-room_answered shape run old new item reply most (inr (inr refused)) room =
-    subst (λ (s : LogState). HasRoom s (most + 1)) (sym refused.log) (room_down old.log item most room)

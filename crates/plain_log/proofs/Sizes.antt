@@ -5,14 +5,11 @@ use Rattle.log_base.proofs.Wide.{length-be2, length-be4, length-be8}
 use Rattle.log_base.specs.declared.numbers.Position.{Position}
 use Rattle.log_base.specs.declared.numbers.Slot.{Slot}
 use Rattle.record_frame.specs.declared.entries.Entry.{Entry}
-use Rattle.command_frame.specs.declared.replies.Reply.{At, Found, PendingRead, Settled}
+use Rattle.command_frame.specs.declared.replies.Reply.{Found, PendingRead, Settled}
 use Rattle.command_frame.specs.Replies.{HasSpelling, IsShort, entry_bytes}
 
 pub settled_spelling : (slot : Slot) → HasSpelling (Settled slot)
 settled_spelling slot = (tt, omega (arith, length-be4 slot.0))
-
-pub at_spelling : (position : Position) → HasSpelling (At position)
-at_spelling position = (tt, omega (arith, length-be8 position.0))
 
 pub pending_spelling : (end : Position) → HasSpelling (PendingRead end)
 pending_spelling end = (tt, omega (arith, length-be8 end.0))

@@ -1,6 +1,6 @@
 -- The log of one thread on a disk that may fail. An append whose put fails is told so, and from then on the replica is
 -- down: appends and reads are refused, and additions go on, since no disk of the replica keeps them.
-use Rattle.std.specs.Prelude.{◌≡◌, ℕ, ◌+◌, List, [], ◌∷◌, ◌++◌, length, take, drop, Bool, true, false, ◌==◌, ◌&&◌, if◌then◌else◌, Option, Some, None, option_and_then, slice_get, IfSome, slice_index_or}
+use Rattle.std.specs.Prelude.{◌≡◌, ℕ, ◌+◌, List, [], ◌∷◌, ◌++◌, length, take, drop, Bool, true, false, ◌==◌, ◌&&◌, if◌then◌else◌, Option, Some, None, option_and_then, slice_get, IfSome}
 use Rattle.log_base.specs.ClusterShape.{Shape}
 use Rattle.record_frame.specs.declared.entries.Entry.{Entry}
 use Rattle.record_frame.specs.declared.values.Value.TheVariants.{Add as AddValue}
@@ -63,20 +63,6 @@ log_with_halt shape run items (Some at) =
 abbrev pub IsHaltOf : Shape → ℕ → List Item → Option ℕ → Type 0
 IsHaltOf shape run items halt =
     IfSome halt (λ at. (item : Item) × (slice_get items at ≡ Some item) × IsPut shape (state_before shape run items at) item)
-
--- the entries of the first segment
-abbrev pub first_entries : LogState → List Entry
-first_entries state = slice_index_or state.segments 0 []
-
--- the entries of the first segment that are stored where that put failed
-abbrev pub entries_with_halt : Shape → ℕ → List Item → Option ℕ → List Entry
-entries_with_halt shape run items None = first_entries (state_after shape run (start shape) items)
-entries_with_halt shape run items (Some at) = first_entries (state_before shape run items at)
-
--- the entry whose put failed
-abbrev pub entry_in_flight : Shape → ℕ → List Item → Option ℕ → Option Entry
-entry_in_flight shape run items None = None
-entry_in_flight shape run items (Some at) = option_and_then (appended run (state_before shape run items at)) (slice_get items at)
 
 -- how many values are decided after the items where that put failed
 abbrev pub values_with_halt : Shape → ℕ → List Item → Option ℕ → ℕ

@@ -1,6 +1,5 @@
-pub mod Answering
 pub mod Coherent
 pub mod Halting
 pub mod Log
-pub mod OneSegment
 pub mod Room
+pub mod Smallest

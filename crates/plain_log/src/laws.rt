@@ -15,7 +15,7 @@ ghost use Rattle.command_frame.specs.declared.replies.Reply.{Settled, At, Found,
 ghost use Rattle.command_frame.specs.Items.{IsItem};
 ghost use Rattle.plain_log.specs.Log.{LogState, log_of, start, state_after, replies_from, reply_to, knows, after, next_entry};
 ghost use Rattle.plain_log.specs.Halting.{log_with_halt, IsHaltOf};
-ghost use Rattle.plain_log.specs.OneSegment.{smallest};
+ghost use Rattle.plain_log.specs.Smallest.{smallest};
 
 /// An addition, an append and a read, answered.
 pub fn first_answers()

@@ -12,6 +12,7 @@ pub mod Later
 pub mod Logs
 pub mod Moments
 pub mod Finds
+pub mod Fresh
 pub mod Serves
 pub mod Spread
 pub mod Stores

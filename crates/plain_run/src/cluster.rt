@@ -9,6 +9,7 @@ ghost use Rattle.command_frame.specs.Replies.{HasSpelling};
 ghost use Rattle.plain_log.specs.Log.{start};
 ghost use Rattle.plain_run.specs.Broken.{IsLater};
 ghost use Rattle.plain_run.specs.Cluster.{Answers, AreFresh, IsUnanswered};
+ghost use Rattle.plain_run.specs.Settled.{KnowAll};
 
 use crate::adding::add_to;
 use crate::appending::{Unstored, append_to};
@@ -78,7 +79,8 @@ impl<J: Journal, P: Places> PlainCluster<J, P> {
 
     /// Gives the replicas back.
     pub fn into_replicas(self) -> Vec<ShardReplica<J, P>>
-        ensures { result.items ≡ self.replicas }
+        ensures replicas { result.items ≡ self.replicas }
+        ensures know { KnowAll self.config self.log.values result.items }
     {
         self.replicas
     }

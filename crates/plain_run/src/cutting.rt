@@ -4,7 +4,7 @@ ghost use Rattle.std.specs.Prelude.{◌≡◌, ◌<◌, ◌≤◌, ◌+◌, ℕ,
 ghost use Rattle.log_base.specs.Shape.{shape};
 ghost use Rattle.plain_log.specs.Log.{LogState, cut_of};
 ghost use Rattle.shard_replica.specs.Lists.{segment_at};
-ghost use Rattle.plain_run.specs.Moving.{AllHaveLength, MayCut};
+ghost use Rattle.plain_run.specs.Moving.{AllHaveLength, MayCut, entries_held};
 ghost use Rattle.plain_run.specs.Settled.{replica_at};
 
 use cut_chain::Places;
@@ -38,7 +38,8 @@ fn least_length<J: Journal, P: Places>(
     requires some { 0 < count }
     requires within { first + count ≤ length replicas.now }
     requires cells { segment < 32 }
-    ensures { (n : ℕ) → AllHaveLength first count segment n replicas.now → result ≡ n }
+    ensures least { (r : ℕ) → r < count → result ≤ length (entries_held (replica_at replicas.now (first + r)) segment) }
+    ensures same { (n : ℕ) → AllHaveLength first count segment n replicas.now → result ≡ n }
 {
     let mut least = length_on(&replicas[first], segment);
     for replica in 1..count {

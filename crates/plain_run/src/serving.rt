@@ -44,6 +44,7 @@ pub fn serve<J: Journal, P: Places>(
         × IsAnswered cluster.old.config cluster.old.run first halt 16384 cluster.old.replicas cluster.new.replicas) }
     ensures cut_short { OnErr result ((first rest : List Item) × (halt : Option ℕ) × (items.items ≡ first ++ rest)
         × IsAnswered cluster.old.config cluster.old.run first halt (length cluster.new.log.values) cluster.old.replicas cluster.new.replicas) }
+    ensures config { cluster.new.config ≡ cluster.old.config }
     ensures later { IsLater cluster.old.replicas cluster.new.replicas }
 {
     let mut frames = Vec::new(alloc);

@@ -7,7 +7,7 @@ ghost use Rattle.log_base.specs.Wide.{IsBytes};
 ghost use Rattle.segment_journal.specs.Journalled.{loaded};
 ghost use Rattle.command_frame.specs.Items.{IsItem};
 ghost use Rattle.plain_run.specs.Cluster.{AreFresh, IsFresh};
-ghost use Rattle.plain_run.specs.Tested.{AreEmpty};
+ghost use Rattle.plain_run.specs.Fresh.{AreEmpty};
 
 use crate::PlainCluster;
 use command_frame::{Item, Reply};

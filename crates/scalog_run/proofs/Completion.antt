@@ -1,20 +1,26 @@
 -- An input that is told gets the status that its reading calls for.
-use Rattle.std.proofs.Common.{◌≡◌, ℕ, ◌⊎◌, inl, inr, List, [], ◌∷◌, Option, Some, None, Bool, Result, Ok, Err, refl, sym, ap, ◌∙◌, subst, arith}
-use Rattle.std.specs.Prelude.{IfSome, IsSomeAnd, IsSome}
+use Rattle.std.proofs.Common.{◌≡◌, ℕ, ◌⊎◌, inl, inr, ◌<◌, ◌≤◌, List, [], ◌∷◌, Option, Some, None, Bool, true, false, cond, Result, Ok, Err, refl, sym, subst, arith}
+use Rattle.std.specs.Prelude.{IfSome, IsSomeAnd, IsSome, nat_lt}
 use Rattle.std.specs.Io.KnownBytes.{Appends}
 use Rattle.std.proofs.KnownBytes.{Appends-nil}
+use Rattle.std.proofs.lemmas.Bool.Decides.{nat_tests}
 use Rattle.log_base.specs.ClusterShape.{Shape}
 use Rattle.log_base.specs.Outside.{Rose}
 use Rattle.segment_journal.specs.File.{recovered}
 use Rattle.command_frame.specs.declared.items.Item.{Item}
 use Rattle.command_frame.specs.declared.answers.ItemFault.{ItemFault}
 use Rattle.command_frame.specs.declared.answers.ItemFault.TheVariants.{Bad, Read, Many, Memory}
-use Rattle.scalog_run.specs.declared.disk.Unanswered.{Unanswered}
-use Rattle.scalog_run.specs.declared.disk.Unanswered.TheVariants.{Unopened, Memory as OutOfMemory}
+use Rattle.plain_log.specs.Halting.{values_with_halt}
+use Rattle.plain_run.specs.Answered.{output_with_halt}
+use Rattle.scalog_run.specs.declared.answering.Unanswered.{Unanswered}
+use Rattle.scalog_run.specs.declared.answering.Unanswered.TheVariants.{Unopened, TooMany as Filled, Memory as OutOfMemory}
 use Rattle.scalog_run.specs.Input.{Ending, Whole, BadPlace, TooMany, ReadsAs}
-use Rattle.scalog_run.specs.Kept.{Lying, IsInUse, IsFresh, IsLater, IsUnopened, IsCutShort}
-use Rattle.scalog_run.specs.Run.{World, Disks, Ran, Opens, IsTold, IsOfReading, Serves, Stops, output, output_with_halt, status_of, status_of_fault, status_of_unanswered, written_at}
+use Rattle.scalog_run.specs.Kept.{IsCutShort, IsFilled, IsUnopened}
+use Rattle.scalog_run.specs.Lent.{IsDisk, IsLater, Lying}
+use Rattle.scalog_run.specs.Opened.{IsFresh, IsInUse}
+use Rattle.scalog_run.specs.Run.{World, Disks, Ran, Opens, IsReady, IsTold, IsOfReading, Serves, Stops, Fills, fits, output, status_of, status_of_fault, status_of_unanswered, written_at}
 use Rattle.scalog_run.specs.Steps.{Refuses}
+use Rattle.scalog_run.proofs.Growing.{filled_past}
 use Rattle.scalog_run.proofs.OneReading.{OneItem, reads_one_way}
 
 reads_so : (shape : Shape) → OneItem shape → (left : Option (List ℕ)) (items others : List Item) (ending other : Ending) → IsTold left
@@ -50,47 +56,80 @@ no_halt (Some at) rose cause none = absurd (none (cause (some_is_some at)))
 -- what the status that an ending calls for says of what was sent
 abbrev pub Completes : {D : Type 0} → Shape → ℕ → World D → World D → ℕ → List Item → Ending → Type 0
 Completes shape run old new status items ending =
-    (status ≡ 9) ⊎ ((status ≡ status_of ending) × Appends old.taken new.taken (written_at shape run items ending))
+    (status ≡ 9) ⊎ ((status ≡ status_of shape run items ending) × Appends old.taken new.taken (written_at shape run items ending))
+
+-- the same of items and an ending that are these
+by_same : {D : Type 0} (shape : Shape) (run : ℕ) (old new : World D) (status : ℕ) (items others : List Item) (ending other : Ending) → (others ≡ items) × (other ≡ ending)
+    → Completes shape run old new status others other → Completes shape run old new status items ending
+by_same shape run old new status items others ending other same completes =
+    subst (λ (n : Ending). Completes shape run old new status items n) same.1 (subst (λ (is : List Item). Completes shape run old new status is other) same.0 completes)
+
+-- where no count of a disk rose, no put failed
+no_put_failed : {D : Type 0} (by : Disks D) (shape : Shape) (old new : World D) (halt : Option ℕ) → Opens by shape old new Whole
+    → (IsSome halt → (k : ℕ) × IsDisk shape k × Rose (old.lain k).disk_faults (new.lain k).disk_faults) → halt ≡ None
+no_put_failed by shape old new halt opens cause = no_halt halt _ cause (λ rose. (opens rose.0 rose.1).2 rose.2)
+
+below : (n : ℕ) → n < 16384 → nat_lt n 16384 ≡ true
+below n lt = grind (arith, nat_tests)
+
+not_below : (n : ℕ) → 16384 ≤ n → nat_lt n 16384 ≡ false
+not_below n ge = grind (arith, nat_tests)
+
+-- what an ending of the whole input calls for, by whether the values are within their limit
+whole_within : {D : Type 0} (shape : Shape) (run : ℕ) (old new : World D) (status : ℕ) (items : List Item) (b : Bool) → b ≡ true → status ≡ 0 → Appends old.taken new.taken (output shape run items)
+    → (status ≡ cond b 0 7) × Appends old.taken new.taken (cond b (output shape run items) [])
+whole_within shape run old new status items true is e sent = (e, sent)
+whole_within shape run old new status items false is e sent = absurd (cc is)
+
+whole_past : {D : Type 0} (shape : Shape) (run : ℕ) (old new : World D) (status : ℕ) (items : List Item) (b : Bool) → b ≡ false → status ≡ 7 → new.taken ≡ old.taken
+    → (status ≡ cond b 0 7) × Appends old.taken new.taken (cond b (output shape run items) [])
+whole_past shape run old new status items true is e silent = absurd (cc is)
+whole_past shape run old new status items false is e silent = (e, nothing_sent old.taken new.taken silent)
 
 -- all was answered
 by_serving : {D : Type 0} (by : Disks D) (shape : Shape) (run : ℕ) (old new : World D) (status : ℕ) → OneItem shape → (items : List Item) (ending : Ending) → IsTold old.left
-    → ReadsAs shape old.left items ending → Opens by old new ending → status ≡ 0 → Serves by shape run old new → Completes shape run old new status items ending
+    → ReadsAs shape old.left items ending → Opens by shape old new ending → status ≡ 0 → Serves by shape run old new → Completes shape run old new status items ending
 by_serving by shape run old new status one items ending told reads opens e served =
     let same = reads_so shape one old.left served.items items Whole ending told served.reads reads in
-    let whole = subst (Opens by old new) (sym same.1) opens in
-    let none = no_halt served.halt _ served.served.cause whole.2 in
-    inr (
-      e ∙ ap status_of same.1,
-      subst (λ (n : Ending). Appends old.taken new.taken (written_at shape run items n)) same.1
-          (subst (λ (is : List Item). Appends old.taken new.taken (output shape run is)) same.0
-          (subst (λ (halt : Option ℕ). Appends old.taken new.taken (output_with_halt shape run served.items halt)) none served.sent)),
-    )
+    let none = no_put_failed by shape old new served.halt (subst (Opens by shape old new) (sym same.1) opens) served.served.cause in
+    let few = subst (λ (halt : Option ℕ). values_with_halt shape run served.items halt < 16384) none served.few in
+    by_same shape run old new status items served.items ending Whole same
+    (inr (whole_within shape run old new status served.items (fits shape run served.items) (below (values_with_halt shape run served.items None) few) e
+    (subst (λ (halt : Option ℕ). Appends old.taken new.taken (output_with_halt shape run served.items halt)) none served.sent)))
+
+-- 16,384 values were known
+by_filling : {D : Type 0} (by : Disks D) (shape : Shape) (run : ℕ) (old new : World D) (status : ℕ) → OneItem shape → (items : List Item) (ending : Ending) → IsTold old.left
+    → ReadsAs shape old.left items ending → Opens by shape old new ending → status ≡ 7 → new.taken ≡ old.taken → Fills by shape run old new → Completes shape run old new status items ending
+by_filling by shape run old new status one items ending told reads opens e silent fills =
+    let filled = fills.filled in
+    let same = reads_so shape one old.left fills.items items Whole ending told fills.reads reads in
+    let none = no_put_failed by shape old new filled.2 (subst (Opens by shape old new) (sym same.1) opens) filled.5.cause in
+    let full = subst (λ (halt : Option ℕ). values_with_halt shape run filled.0 halt ≡ 16384) none filled.4 in
+    let past = subst (λ (is : List Item). 16384 ≤ values_with_halt shape run is None) (sym filled.3) (filled_past shape run filled.0 filled.1 full) in
+    by_same shape run old new status items fills.items ending Whole same
+    (inr (whole_past shape run old new status fills.items (fits shape run fills.items) (not_below (values_with_halt shape run fills.items None) past) e silent))
 
 -- a place is bad, or an item passes a limit
 by_refusing : {D : Type 0} (shape : Shape) (run : ℕ) (old new : World D) (status : ℕ) → OneItem shape → (items others : List Item) (ending other : Ending) → IsTold old.left
-    → ReadsAs shape old.left items ending → ReadsAs shape old.left others other → status ≡ status_of other
-    → new.taken ≡ old.taken → written_at shape run items other ≡ [] → Completes shape run old new status items ending
+    → ReadsAs shape old.left items ending → ReadsAs shape old.left others other → status ≡ status_of shape run others other
+    → new.taken ≡ old.taken → written_at shape run others other ≡ [] → Completes shape run old new status items ending
 by_refusing shape run old new status one items others ending other told reads read e silent none =
-    let same = reads_so shape one old.left others items other ending told read reads in
-    inr (
-      e ∙ ap status_of same.1,
-      subst (λ (n : Ending). Appends old.taken new.taken (written_at shape run items n)) same.1
-          (subst (λ (l : List ℕ). Appends old.taken new.taken l) (sym none) (nothing_sent old.taken new.taken silent)),
-    )
+    by_same shape run old new status items others ending other (reads_so shape one old.left others items other ending told read reads)
+    (inr (e, subst (λ (l : List ℕ). Appends old.taken new.taken l) (sym none) (nothing_sent old.taken new.taken silent)))
 
--- the disk could not be opened, so it is not one that opens
+-- a disk could not be opened, so it is not one that is ready
 by_stopping : {D : Type 0} (by : Disks D) (shape : Shape) (old new : World D) → OneItem shape → (items : List Item) (ending : Ending) → IsTold old.left
-    → ReadsAs shape old.left items ending → Opens by old new ending → Stops by shape old new → ⊥
+    → ReadsAs shape old.left items ending → Opens by shape old new ending → Stops by shape old new → ⊥
 by_stopping {D = D} by shape old new one items ending told reads opens stops =
     let same = reads_so shape one old.left stops.items items Whole ending told stops.reads reads in
-    let whole = subst (Opens by old new) (sym same.1) opens in
-    closed whole stops.unopened.cause
+    let cause = stops.unopened.cause in
+    closed (old.lain cause.0) (new.lain cause.0) (subst (Opens by shape old new) (sym same.1) opens cause.0 cause.1) cause.2
   where
-    closed : Opens by old new Whole → Rose old.lain.rack_faults new.lain.rack_faults ⊎ Rose old.lain.disk_faults new.lain.disk_faults
-        ⊎ IfSome old.lain.disk (λ disk. IfSome (by.reads disk) (λ bytes. IsInUse (recovered bytes))) → ⊥
-    closed whole (inl rose) = whole.1 rose
-    closed whole (inr (inl rose)) = whole.2 rose
-    closed whole (inr (inr in_use)) = fresh_opens by.reads old.lain.disk whole.0 in_use
+    closed : (before now : Lying D) → IsReady by before now → Rose before.rack_faults now.rack_faults ⊎ Rose before.disk_faults now.disk_faults
+        ⊎ IfSome before.disk (λ disk. IfSome (by.reads disk) (λ bytes. IsInUse (recovered bytes))) → ⊥
+    closed before now ready (inl rose) = ready.1 rose
+    closed before now ready (inr (inl rose)) = ready.2 rose
+    closed before now ready (inr (inr in_use)) = fresh_opens by.reads before.disk ready.0 in_use
 
 -- ---- runs
 
@@ -99,10 +138,10 @@ same_keeps : {D : Type 0} (keeps_synced : D → Bool) (disk : Option D) → IfSo
 same_keeps keeps_synced None = tt
 same_keeps keeps_synced (Some disk) = refl
 
-same_lain : {D : Type 0} (by : Disks D) (old new : World D) → new.lain ≡ old.lain → IsLater by.keeps_synced old.lain new.lain
-same_lain {D = D} by old new e =
-    subst (λ (lain : Lying D). IsLater by.keeps_synced old.lain lain) (sym e)
-    (record { disk = omega arith; rack = omega arith; keeps = same_keeps by.keeps_synced old.lain.disk })
+same_lain : {D : Type 0} (by : Disks D) (shape : Shape) (old new : World D) → new.lain ≡ old.lain → (k : ℕ) → IsDisk shape k → IsLater by.keeps_synced (old.lain k) (new.lain k)
+same_lain {D = D} by shape old new e k is =
+    subst (λ (lain : ℕ → Lying D). IsLater by.keeps_synced (old.lain k) (lain k)) (sym e)
+    (record { disk = omega arith; rack = omega arith; keeps = same_keeps by.keeps_synced (old.lain k).disk })
 
 -- not all items were read
 pub refused_run : {D : Type 0} (by : Disks D) (shape : Shape) (run : ℕ) (old new : World D) (status : ℕ) (fault : ItemFault) → OneItem shape
@@ -119,7 +158,7 @@ refused_run by shape run old new status (Bad at) one refuses e silent unlent = r
   only = inr (inl e);
   silent = λ z w. silent;
   unlent = λ z. unlent;
-  later = same_lain by old new unlent;
+  later = same_lain by shape old new unlent;
   complete = λ items ending told reads no_read no_write opens.
       by_refusing shape run old new status one items refuses.0 ending BadPlace told reads refuses.1 e silent refl;
 }
@@ -134,7 +173,7 @@ refused_run by shape run old new status (Read at) one refuses e silent unlent = 
   only = inr (inr (inl e));
   silent = λ z w. silent;
   unlent = λ z. unlent;
-  later = same_lain by old new unlent;
+  later = same_lain by shape old new unlent;
   complete = λ items ending told reads no_read no_write opens. absurd (no_read refuses);
 }
 refused_run by shape run old new status (Many cause) one refuses e silent unlent = record {
@@ -143,12 +182,12 @@ refused_run by shape run old new status (Many cause) one refuses e silent unlent
   read = λ z. absurd (omega arith);
   write = λ z. absurd (omega arith);
   unopened = λ z. absurd (omega arith);
-  many = λ z. (refuses.0, cause, refuses.1);
+  many = λ z. inl (refuses.0, cause, refuses.1, unlent);
   memory = λ z. absurd (omega arith);
   only = inr (inr (inr (inr (inr (inl e)))));
   silent = λ z w. silent;
   unlent = λ z. unlent;
-  later = same_lain by old new unlent;
+  later = same_lain by shape old new unlent;
   complete = λ items ending told reads no_read no_write opens.
       by_refusing shape run old new status one items refuses.0 ending (TooMany cause) told reads refuses.1 e silent refl;
 }
@@ -163,17 +202,18 @@ refused_run by shape run old new status Memory one refuses e silent unlent = rec
   only = inr (inr (inr (inr (inr (inr e)))));
   silent = λ z w. silent;
   unlent = λ z. unlent;
-  later = same_lain by old new unlent;
+  later = same_lain by shape old new unlent;
   complete = λ items ending told reads no_read no_write opens. inl e;
 }
 
 -- the items were read and not all answered
 pub unanswered_run : {D : Type 0} (by : Disks D) (shape : Shape) (run : ℕ) (old new : World D) (status : ℕ) (unanswered : Unanswered) → OneItem shape
-    → (items : List Item) → ReadsAs shape old.left items Whole → status ≡ status_of_unanswered unanswered → new.taken ≡ old.taken → IsLater by.keeps_synced old.lain new.lain
-    → (unanswered ≡ Unopened → IsUnopened by.reads by.may_leave by.keeps_synced old.lain new.lain)
+    → (items : List Item) → ReadsAs shape old.left items Whole → status ≡ status_of_unanswered unanswered → new.taken ≡ old.taken → ((k : ℕ) → IsDisk shape k → IsLater by.keeps_synced (old.lain k) (new.lain k))
+    → (unanswered ≡ Unopened → IsUnopened by.reads by.may_leave by.keeps_synced shape old.lain new.lain)
+    → (unanswered ≡ Filled → IsFilled by.may_leave by.keeps_synced shape run items old.lain new.lain)
     → (unanswered ≡ OutOfMemory → IsCutShort by.may_leave by.keeps_synced shape run items old.lain new.lain)
     → Ran by shape run old new status
-unanswered_run by shape run old new status Unopened one items reads e silent later unopened cut_short =
+unanswered_run by shape run old new status Unopened one items reads e silent later unopened filled cut_short =
     let stops : Stops by shape old new = record { items = items; reads = reads; unopened = unopened refl } in
     record {
       done = λ z. absurd (omega arith);
@@ -192,9 +232,28 @@ unanswered_run by shape run old new status Unopened one items reads e silent lat
   where
     other : IsOfReading status → status ≡ 6 → ⊥
     other (inl z) e = omega (arith, z, e)
-    other (inr (inl z)) e = omega (arith, z, e)
-    other (inr (inr z)) e = omega (arith, z, e)
-unanswered_run by shape run old new status OutOfMemory one items reads e silent later unopened cut_short = record {
+    other (inr z) e = omega (arith, z, e)
+unanswered_run by shape run old new status Filled one items reads e silent later unopened filled cut_short =
+    let fills : Fills by shape run old new = record { items = items; reads = reads; filled = filled refl } in
+    record {
+      done = λ z. absurd (omega arith);
+      bad = λ z. absurd (omega arith);
+      read = λ z. absurd (omega arith);
+      write = λ z. absurd (omega arith);
+      unopened = λ z. absurd (omega arith);
+      many = λ z. inr fills;
+      memory = λ z. absurd (omega arith);
+      only = inr (inr (inr (inr (inr (inl e)))));
+      silent = λ z w. silent;
+      unlent = λ z. absurd (other z e);
+      later = later;
+      complete = λ others ending told reads no_read no_write opens. by_filling by shape run old new status one others ending told reads opens e silent fills;
+    }
+  where
+    other : IsOfReading status → status ≡ 7 → ⊥
+    other (inl z) e = omega (arith, z, e)
+    other (inr z) e = omega (arith, z, e)
+unanswered_run by shape run old new status OutOfMemory one items reads e silent later unopened filled cut_short = record {
   done = λ z. absurd (omega arith);
   bad = λ z. absurd (omega arith);
   read = λ z. absurd (omega arith);
@@ -211,12 +270,11 @@ unanswered_run by shape run old new status OutOfMemory one items reads e silent 
   where
     other : IsOfReading status → status ≡ 9 → ⊥
     other (inl z) e = omega (arith, z, e)
-    other (inr (inl z)) e = omega (arith, z, e)
-    other (inr (inr z)) e = omega (arith, z, e)
+    other (inr z) e = omega (arith, z, e)
 
 -- all items were answered and the replies sent
 pub served_run : {D : Type 0} (by : Disks D) (shape : Shape) (run : ℕ) (old new : World D) (status : ℕ) → OneItem shape → status ≡ 0 → Serves by shape run old new
-    → IsLater by.keeps_synced old.lain new.lain → Ran by shape run old new status
+    → ((k : ℕ) → IsDisk shape k → IsLater by.keeps_synced (old.lain k) (new.lain k)) → Ran by shape run old new status
 served_run by shape run old new status one e serves later = record {
   done = λ z. serves;
   bad = λ z. absurd (omega arith);
@@ -234,5 +292,4 @@ served_run by shape run old new status one e serves later = record {
   where
     other : IsOfReading status → status ≡ 0 → ⊥
     other (inl z) e = omega (arith, z, e)
-    other (inr (inl z)) e = omega (arith, z, e)
-    other (inr (inr z)) e = omega (arith, z, e)
+    other (inr z) e = omega (arith, z, e)

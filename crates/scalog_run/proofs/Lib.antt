@@ -1,5 +1,10 @@
-pub mod Answered
+pub mod Closing
 pub mod Completion
+pub mod Growing
+pub mod Knowing
+pub mod Lending
+pub mod Nodes
 pub mod OneReading
-pub mod OverDisk
+pub mod Opening
+pub mod Served
 pub mod SoFar

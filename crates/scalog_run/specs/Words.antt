@@ -1,20 +1,11 @@
--- The words that are a command, and the options that they choose.
-use Rattle.std.specs.Prelude.{◌≡◌, ℕ, List, [], ◌∷◌, codes, None, false}
-use Rattle.log_base.specs.ClusterShape.{Shape}
+-- Which numbers of a rack the words of a command leave alone.
+use Rattle.std.specs.Prelude.{ℕ, List}
 use Rattle.log_base.specs.Shape.{shape}
-use Rattle.scalog_run.specs.declared.options.Options.{Options}
+use Rattle.command_words.specs.Commands.{Spells}
+use Rattle.command_words.specs.declared.command.Command.TheVariants.{Run}
+use Rattle.command_words.specs.declared.command.Options.{Options}
+use Rattle.scalog_run.specs.Lent.{IsDisk}
 
--- a word is the list of its bytes
-abbrev pub IsCommand : List (List ℕ) → Type 0
-IsCommand words = words ≡ codes "run" ∷ codes "--replicas" ∷ codes "1" ∷ codes "--shards" ∷ codes "1" ∷ []
-
--- one replica of one shard, three orderers and a gatherer
-abbrev pub least_shape : Shape
-least_shape = record { replicas = 1; shards = 1; orderers = 3; gatherers = 1 }
-
--- run 1 of that cluster, with disks in memory and all replies written
-pub record IsFirstRun (options : Options) : Type 0 where
-  pub config : shape options.config ≡ least_shape
-  pub run : options.run ≡ 1
-  pub folder : options.folder ≡ None
-  pub brief : options.brief ≡ false
+-- If the words are a run, the number is no disk of its cluster. A word is the list of its bytes.
+abbrev pub IsUnused : List (List ℕ) → ℕ → Type 0
+IsUnused words number = (options : Options) → Spells words (Run options) → ¬ IsDisk (shape options.config) number

@@ -1,15 +1,15 @@
 //! The top call: words to options, items in, replies out, and the status that the program ends with.
 #![tactic(auto)]
 
+mod answering;
+mod cluster;
 mod disk;
-mod options;
+mod node;
 mod reading;
 mod run;
-mod serving;
 pub mod status;
-mod words;
 
-pub use options::Options;
+pub use command_words::Options;
 pub use run::{one_reading, run_items, scalog};
 
 #[cfg(test)]

@@ -3,7 +3,7 @@
 /// All items were answered and the replies were sent.
 pub const DONE: u8 = 0;
 
-/// The words are no command.
+/// The words are no command that is offered.
 pub const BAD_WORDS: u8 = 2;
 
 /// The input has a place where no frame or no item stands.
@@ -15,10 +15,10 @@ pub const READ_FAULT: u8 = 4;
 /// The sink failed.
 pub const WRITE_FAULT: u8 = 5;
 
-/// The disk could not be opened: the rack or the disk failed, its bytes are damaged, or it holds something.
+/// A disk could not be opened: the rack or the disk failed, its bytes are damaged, or it holds something.
 pub const DISK_FAULT: u8 = 6;
 
-/// The input has too many items, or too many bytes in their records.
+/// The input has too many items, or too many bytes in their records, or 16,384 values are known.
 pub const TOO_MANY: u8 = 7;
 
 /// Memory ran out.

@@ -9,6 +9,9 @@ use std::test::Fail;
 
 const WORDS: [&str; 5] = ["run", "--replicas", "1", "--shards", "1"];
 
+// Two replicas of each of two shards.
+const TWO_BY_TWO: [&str; 1] = ["run"];
+
 const ADD: &[u8] = b"\0\0\0\x04\x05\0\0\0";
 
 const ADD_APPEND_READ: &[u8] =
@@ -37,8 +40,10 @@ fn run_on(
     failing_write: u32,
 ) -> Result<Outcome, Fail> {
     let disk = MemoryDisk::of(rt.alloc(), Vec::new(rt.alloc()));
-    run_over(rt, words, input, failing_read, failing_write, disk)
+    run_over(rt, words, input, failing_read, failing_write, 0, disk)
 }
+
+// What is kept is that of the disk that is placed, under its number.
 
 fn run_over(
     rt: &HostRuntime,
@@ -46,6 +51,7 @@ fn run_over(
     input: &[u8],
     failing_read: u32,
     failing_write: u32,
+    number: u32,
     disk: MemoryDisk,
 ) -> Result<Outcome, Fail> {
     let alloc = rt.alloc();
@@ -60,10 +66,10 @@ fn run_over(
         .ok()
         .ok_or("memory")?;
     let mut rack = MemoryRack::new(alloc);
-    rack.place(0, disk).ok().ok_or("place")?;
+    rack.place(number, disk).ok().ok_or("place")?;
     let status = scalog(alloc, &texts, &mut source, &mut sink, &mut rack);
     let sent = Vec::from_slice(alloc, sink.bytes())?;
-    let kept = Vec::from_slice(alloc, rack.disk(0).ok_or("disk")?.bytes())?;
+    let kept = Vec::from_slice(alloc, rack.disk(number).ok_or("disk")?.bytes())?;
     Ok(Outcome { status, sent, kept })
 }
 
@@ -80,6 +86,35 @@ fn inputs_are_answered(rt: HostRuntime) -> Result<(), Fail> {
     ];
     for (input, want) in table {
         let outcome = run_on(&rt, &WORDS, input, NEVER, NEVER)?;
+        assert_eq!(rt; outcome.status, status::DONE);
+        assert_eq!(rt; outcome.sent.as_slice(), want);
+    }
+    Ok(())
+}
+
+const TWO_SHARDS: &[u8] =
+    b"\0\0\0\x04\x05\0\0\0\0\0\0\x04\x05\0\0\x01\0\0\0\x06\x01\0\0\0\0x\0\0\0\x06\x01\0\0\x01\x01y\0\0\0\x06\x01\0\0\0\x01z\0\0\0\x0d\x02\0\0\0\0\0\0\0\0\0\0\0\x01";
+
+// Settled at slots 0 and 1, at positions 0, 1 and 2, and the record y found at position 1.
+const TWO_SHARDS_ANSWERED: &[u8] =
+    b"\0\0\0\x07\x40\0\x14\0\0\0\0\0\0\0\x07\x40\0\x14\0\0\0\x01\0\0\0\x0b\x40\0\x02\0\0\0\0\0\0\0\0\0\0\0\x0b\x40\0\x02\0\0\0\0\0\0\0\x01\0\0\0\x0b\x40\0\x02\0\0\0\0\0\0\0\x02\0\0\0\x1a\x40\0\x03\0\0\0\0\0\0\0\x01\0\0\0\0\0\x01\0\0\0\x01\0\0\0\x01y";
+
+const EMPTY_RECORD: &[u8] =
+    b"\0\0\0\x04\x05\0\0\0\0\0\0\x05\x01\0\0\0\0\0\0\0\x0d\x02\0\0\0\0\0\0\0\0\0\0\0\0";
+
+// Settled at slot 0, at position 0, and the empty record found there.
+const EMPTY_RECORD_ANSWERED: &[u8] =
+    b"\0\0\0\x07\x40\0\x14\0\0\0\0\0\0\0\x0b\x40\0\x02\0\0\0\0\0\0\0\0\0\0\0\x19\x40\0\x03\0\0\0\0\0\0\0\0\0\0\0\0\0\x01\0\0\0\0\0\0\0\0";
+
+#[test]
+fn clusters_answer(rt: HostRuntime) -> Result<(), Fail> {
+    let table = [
+        (TWO_SHARDS, TWO_SHARDS_ANSWERED),
+        (EMPTY_RECORD, EMPTY_RECORD_ANSWERED),
+        (ADD_APPEND_READ, SETTLED_AT_FOUND),
+    ];
+    for (input, want) in table {
+        let outcome = run_on(&rt, &TWO_BY_TWO, input, NEVER, NEVER)?;
         assert_eq!(rt; outcome.status, status::DONE);
         assert_eq!(rt; outcome.sent.as_slice(), want);
     }
@@ -125,16 +160,21 @@ fn bad_inputs_are_refused(rt: HostRuntime) -> Result<(), Fail> {
 fn words_and_faults_have_their_status(rt: HostRuntime) -> Result<(), Fail> {
     let words = [
         [].as_slice(),
-        &["run"],
-        &["run", "--shards", "1", "--replicas", "1"],
+        &["--help"],
+        &["run", "--run=2"],
+        &["run", "--brief"],
+        &["run", "--shards", "8", "--replicas", "5"],
         &["run", "--replicas", "1", "--shards", "1", "1"],
-        &["run", "--replicas", "1", "--shards", "2"],
     ];
     for words in words {
         let outcome = run_on(&rt, words, ADD_APPEND_READ, NEVER, NEVER)?;
         assert_eq!(rt; outcome.status, status::BAD_WORDS);
         assert_eq!(rt; outcome.sent.len(), 0);
     }
+    let words = ["run", "--shards", "1", "--run", "2", "--replicas", "1"];
+    let other = run_on(&rt, &words, ADD_APPEND, NEVER, NEVER)?;
+    assert_eq!(rt; other.status, status::DONE);
+    assert_eq!(rt; other.sent.as_slice(), SETTLED_AT);
     let read = run_on(&rt, &WORDS, ADD_APPEND_READ, 3, NEVER)?;
     assert_eq!(rt; read.status, status::READ_FAULT);
     assert_eq!(rt; read.sent.len(), 0);
@@ -159,22 +199,26 @@ const SETTLED_AT: &[u8] = b"\0\0\0\x07\x40\0\x14\0\0\0\0\0\0\0\x0b\x40\0\x02\0\0
 // The entry of the append, behind its open gate, and a closed gate.
 const ENTRY: &[u8] = b"\x01\0\0\0\x10\x01\0\0\0\0\0\x01\0\0\0\0\0\0\0\x01a\0";
 
-// Loading the empty disk is the first write, and each put has two.
+// Loading the empty disk is the first write, and each put has two. Disk 8 is that of the first segment's copy on
+// the second replica.
 #[test]
 fn entries_are_put_before_their_replies(rt: HostRuntime) -> Result<(), Fail> {
-    let table: [(&[u8], u32, u32, &[u8], &[u8]); 3] = [
-        (ADD_APPEND_APPEND, 1, 3, SETTLED_HALTED_DOWN, b"\0\0\0\0"),
-        (ADD_APPEND, 2, 1, SETTLED_HALTED, ENTRY),
-        (ADD_APPEND, 3, 0, SETTLED_AT, ENTRY),
+    let table: [(u32, &[u8], u32, u32, &[u8], &[u8]); 6] = [
+        (0, ADD_APPEND_APPEND, 1, 3, SETTLED_HALTED_DOWN, b"\0\0\0\0"),
+        (0, ADD_APPEND, 2, 1, SETTLED_HALTED, ENTRY),
+        (0, ADD_APPEND, 3, 0, SETTLED_AT, ENTRY),
+        (8, ADD_APPEND_APPEND, 1, 3, SETTLED_HALTED_DOWN, b"\0\0\0\0"),
+        (8, ADD_APPEND, 2, 1, SETTLED_HALTED, ENTRY),
+        (8, ADD_APPEND, 3, 0, SETTLED_AT, ENTRY),
     ];
-    for (input, after, keep, sent, kept) in table {
+    for (number, input, after, keep, sent, kept) in table {
         let mut disk = MemoryDisk::of(rt.alloc(), Vec::new(rt.alloc()));
         disk.plan(Plan {
             after,
             keep,
             lose: false,
         });
-        let outcome = run_over(&rt, &WORDS, input, NEVER, NEVER, disk)?;
+        let outcome = run_over(&rt, &TWO_BY_TWO, input, NEVER, NEVER, number, disk)?;
         assert_eq!(rt; outcome.status, status::DONE);
         assert_eq!(rt; outcome.sent.as_slice(), sent);
         assert_eq!(rt; outcome.kept.as_slice(), kept);
@@ -185,14 +229,20 @@ fn entries_are_put_before_their_replies(rt: HostRuntime) -> Result<(), Fail> {
 // Disks that can't be opened, and one that holds nothing.
 #[test]
 fn disks_in_use_are_refused(rt: HostRuntime) -> Result<(), Fail> {
-    let table: [(&[u8], u8, &[u8]); 3] = [
-        (b"\x01\0\0\0\x05A", status::DISK_FAULT, b"\x01\0\0\0\x05A"),
-        (ENTRY, status::DISK_FAULT, ENTRY),
-        (b"\x02\0\0", status::DONE, b"\0\0\0"),
+    let table: [(u32, &[u8], u8, &[u8]); 4] = [
+        (
+            0,
+            b"\x01\0\0\0\x05A",
+            status::DISK_FAULT,
+            b"\x01\0\0\0\x05A",
+        ),
+        (0, ENTRY, status::DISK_FAULT, ENTRY),
+        (25, ENTRY, status::DISK_FAULT, ENTRY),
+        (0, b"\x02\0\0", status::DONE, b"\0\0\0"),
     ];
-    for (bytes, want, kept) in table {
+    for (number, bytes, want, kept) in table {
         let disk = MemoryDisk::of(rt.alloc(), bytes.to_vec(rt.alloc())?);
-        let outcome = run_over(&rt, &WORDS, ADD, NEVER, NEVER, disk)?;
+        let outcome = run_over(&rt, &TWO_BY_TWO, ADD, NEVER, NEVER, number, disk)?;
         assert_eq!(rt; outcome.status, want);
         assert_eq!(rt; outcome.kept.as_slice(), kept);
         assert_eq!(rt; outcome.sent.is_empty(), want != status::DONE);
@@ -203,10 +253,10 @@ fn disks_in_use_are_refused(rt: HostRuntime) -> Result<(), Fail> {
         keep: 0,
         lose: false,
     });
-    let outcome = run_over(&rt, &WORDS, ADD, NEVER, NEVER, stopped)?;
+    let outcome = run_over(&rt, &WORDS, ADD, NEVER, NEVER, 0, stopped)?;
     assert_eq!(rt; outcome.status, status::DISK_FAULT);
     let damaged = MemoryDisk::of(rt.alloc(), b"\x01\0\0\0\x05A".to_vec(rt.alloc())?);
-    let bad = run_over(&rt, &WORDS, b"\0\0\0\0", NEVER, NEVER, damaged)?;
+    let bad = run_over(&rt, &WORDS, b"\0\0\0\0", NEVER, NEVER, 0, damaged)?;
     assert_eq!(rt; bad.status, status::BAD_INPUT);
     Ok(())
 }
@@ -231,17 +281,18 @@ fn long_record(rt: &HostRuntime, size: usize) -> Result<Outcome, Fail>
 fn limits_are_those_that_are_stated(rt: HostRuntime) -> Result<(), Fail> {
     assert_eq!(rt; long_record(&rt, 65_535)?.status, status::DONE);
     assert_eq!(rt; long_record(&rt, 65_536)?.status, status::BAD_INPUT);
-    let mut input = Vec::new(rt.alloc());
-    for _ in 0..65_536 {
-        input.extend_from_slice(ADD)?;
+    for (count, want) in [
+        (16_383, status::DONE),
+        (16_384, status::TOO_MANY),
+        (65_537, status::TOO_MANY),
+    ] {
+        let mut input = Vec::new(rt.alloc());
+        for _ in 0..count {
+            input.extend_from_slice(ADD)?;
+        }
+        let outcome = run_on(&rt, &WORDS, &input, NEVER, NEVER)?;
+        assert_eq!(rt; outcome.status, want, "{count}");
+        assert_eq!(rt; outcome.sent.is_empty(), want != status::DONE, "{count}");
     }
-    assert_eq!(rt;
-        run_on(&rt, &WORDS, &input, NEVER, NEVER)?.status,
-        status::DONE
-    );
-    input.extend_from_slice(ADD)?;
-    let many = run_on(&rt, &WORDS, &input, NEVER, NEVER)?;
-    assert_eq!(rt; many.status, status::TOO_MANY);
-    assert_eq!(rt; many.sent.len(), 0);
     Ok(())
 }

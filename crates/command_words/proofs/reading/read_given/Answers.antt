@@ -1,10 +1,10 @@
 use Rattle.std.proofs.Common.{◌≡◌, ◌<◌, ℕ, List, length, map, string_bytes, Err, refl, sym, ◌∙◌, subst, rules}
 use Rattle.std.proofs.lemmas.List.{length-map}
 use Rattle.std.proofs.lemmas.Result.{err_from_is_err_and}
-use Rattle.command_words.specs.declared.command.WordsFault.TheVariants.{NoCommand}
+use Rattle.command_words.specs.declared.command.WordsFault.TheVariants.{Memory, NoCommand}
 use Rattle.command_words.specs.Settings.{setting_words}
 use Rattle.command_words.proofs.WordLists.{words_behind}
-use Rattle.command_words.proofs.GivenSoFar.{SoFar, given_twice, goes_on_with, no_option, not_taken}
+use Rattle.command_words.proofs.GivenSoFar.{SoFar, folder_given, given_twice, goes_on_with, no_option, not_taken}
 use Rattle.command_words.proofs.reading.read_given.Goals as goal
 
 pub returns-in_err-setting-clause-none : goal.returns-in_err-setting-clause-none
@@ -36,3 +36,10 @@ returns-in_err-take-clause-none c = λ is.
     let refused : c.take.result ≡ Err NoCommand = cc (c.in_err-take.was, exit.1, exit.2, is) in
     given_twice c.args.command _ (map string_bytes c.settings.rest.now) c.settings.given c.settings.invariant c.in_ok-setting.setting read.1.0 read.0 read.1.1
     (c.take.ensures.twice refused)
+
+pub returns-in_err-setting-clause-memory : goal.returns-in_err-setting-clause-memory
+returns-in_err-setting-clause-memory c = λ is.
+    let exit = err_from_is_err_and c.from_residual.result c.from_residual.ensures.1 in
+    let out : c.read.result ≡ Err Memory = cc (c.in_err-setting.was, exit.1, exit.2, is) in
+    let folder = c.read.ensures.memory out in
+    folder_given c.args.command _ (map string_bytes c.settings.rest.now) c.settings.given c.settings.invariant folder.0 folder.1 folder.2 folder.3

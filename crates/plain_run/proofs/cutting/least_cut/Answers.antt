@@ -30,7 +30,7 @@ loop-segment-preserved g c log may =
     let own = ap (λ (n : ℕ). k % n) c.replicas-in-loop-segment.ensures in
     let all = (segment_length (shape config) log c.args.replicas.now k (k % c.replicas-in-loop-segment.result) c.from-first.result may range.some_replica
     (omega (arith, c.loop-segment-test.true, total)) own c.from-first.ensures).1 in
-    let least = c.least_length.ensures (length (slice_index_or log.segments k []))
+    let least = c.least_length.ensures.same (length (slice_index_or log.segments k []))
     (subst (λ (n : ℕ). AllHaveLength c.from-first.result n (k % c.replicas-in-loop-segment.result) (length (slice_index_or log.segments k [])) c.args.replicas.now) (sym c.replicas-in-loop-segment-2.ensures) all) in
     cut_more k c.from.result c.least_length.result log.segments c.loop-segment.length c.from.ensures
     (omega (arith, c.loop-segment-test.true, total, range.segments, mul_comm config.replicas config.shards)) least (c.loop-segment.invariant log may)

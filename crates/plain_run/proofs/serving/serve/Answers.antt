@@ -68,6 +68,9 @@ returns-in-Err-clause-too_many g c full =
 pub returns-in-Err-clause-later : goal.returns-in-Err-clause-later
 returns-in-Err-clause-later g c = later_both _ _ _ c.items.invariant.later c.in-Err.ensures.later
 
+pub returns-in-Err-clause-config : goal.returns-in-Err-clause-config
+returns-in-Err-clause-config g c = c.in-Err.ensures.config ∙ c.items.invariant.config
+
 -- all items were answered
 pub returns-clause-answered : goal.returns-clause-answered
 returns-clause-answered g c =

@@ -1,9 +1,9 @@
 use Rattle.std.proofs.Common.{◌≡◌, ◌+◌, ◌*◌, ◌/◌, ◌%◌, ◌∷◌, [], ◌++◌, ℕ, List, sym, ap, ◌∙◌, subst, arith}
 use Rattle.log_base.specs.Shape.{shape}
 use Rattle.shard_replica.specs.Replica.{Replicated}
-use Rattle.plain_run.specs.Tested.{AreFreshTo}
+use Rattle.plain_run.specs.Fresh.{AreFreshTo}
 use Rattle.plain_run.proofs.Cuts.{mul_comm}
-use Rattle.plain_run.proofs.Testing.{one_fresh, all_fresh}
+use Rattle.plain_run.proofs.Fresh.{one_fresh, all_fresh}
 use Rattle.plain_run.proofs.tests.all_fresh.Goals as goal
 
 pub loop-node-preserved : goal.loop-node-preserved

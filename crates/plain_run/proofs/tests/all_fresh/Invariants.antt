@@ -1,5 +1,5 @@
 use Rattle.log_base.specs.Shape.{shape}
-use Rattle.plain_run.specs.Tested.{AreFreshTo}
+use Rattle.plain_run.specs.Fresh.{AreFreshTo}
 use Rattle.plain_run.proofs.tests.all_fresh.Given as goal
 
 -- the replicas of the nodes before this one are made

@@ -1,5 +1,5 @@
 use Rattle.log_base.specs.Shape.{shape}
-use Rattle.plain_run.proofs.Testing.{empty_all, fresh_over}
+use Rattle.plain_run.proofs.Fresh.{empty_all, fresh_over}
 use Rattle.plain_run.proofs.tests.fresh.Goals as goal
 
 pub returns-in-Ok : goal.returns-in-Ok

@@ -1,7 +1,7 @@
 use Rattle.std.proofs.Common.{◌≡◌, ◌+◌, ◌∷◌, [], ◌++◌, ℕ, List, length, length-append, sym, ap, ◌∙◌, subst}
 use Rattle.std.proofs.lemmas.List.Elements.{All-push}
 use Rattle.segment_journal.specs.Journalled.{loaded}
-use Rattle.plain_run.specs.Tested.{AreEmpty}
+use Rattle.plain_run.specs.Fresh.{AreEmpty}
 use Rattle.plain_run.proofs.tests.journals.Goals as goal
 
 pub loop-segment-preserved : goal.loop-segment-preserved

@@ -1,4 +1,4 @@
-use Rattle.plain_run.specs.Tested.{AreEmpty}
+use Rattle.plain_run.specs.Fresh.{AreEmpty}
 use Rattle.plain_run.proofs.tests.journals.Given as goal
 
 -- so many journals are made

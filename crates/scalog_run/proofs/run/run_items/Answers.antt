@@ -18,7 +18,7 @@ returns-in-Err-answer_items-clause-run g c =
     let range = c.args.options.now.config.in_range in
     unanswered_run (disks g.Q.D.Disk.reads g.Q.D.Disk.may_leave g.Q.D.Disk.keeps_synced) _ _ _ _ _ c.in-Err-answer_items.unanswered (λ item next rest more is are e. one_item _ item next rest more range is are e)
     c.in-Ok.items.items c.in-Ok.ensures.read.reads c.status_of_disk.ensures refl c.in-Err-answer_items.ensures.later
-    (λ e. c.in-Err-answer_items.ensures.unopened (cc e)) (λ e. c.in-Err-answer_items.ensures.cut_short (cc e))
+    (λ e. c.in-Err-answer_items.ensures.unopened (cc e)) (λ e. c.in-Err-answer_items.ensures.filled (cc e)) (λ e. c.in-Err-answer_items.ensures.cut_short (cc e))
 
 -- the replies to all items were sent
 pub returns-in-Ok-send-clause-run : goal.returns-in-Ok-send-clause-run
@@ -32,6 +32,7 @@ returns-in-Ok-send-clause-run g c =
       reads = read.reads;
       used = read.used;
       ended = read.ended;
+      few = answered.2;
       served = answered.1;
-      sent = subst (Appends _ _) (c.deref.ensures.value ∙ answered.2) c.in-Ok-send.ensures.ok;
+      sent = subst (Appends _ _) (c.deref.ensures.value ∙ answered.3) c.in-Ok-send.ensures.ok;
     }) c.in-Ok-answer_items.ensures.later

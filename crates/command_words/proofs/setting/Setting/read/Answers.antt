@@ -1,4 +1,4 @@
-use Rattle.std.proofs.Common.{◌≡◌, codes, drop, map, string_bytes, rules, arith, sym, ◌∙◌}
+use Rattle.std.proofs.Common.{◌≡◌, ℕ, List, ◌∷◌, ap, codes, drop, map, string_bytes, rules, arith, sym, ◌∙◌}
 use Rattle.command_words.proofs.SettingWords.{brief_front, folder_read, number_read}
 use Rattle.command_words.proofs.WordLists.{first_word, two_words}
 use Rattle.command_words.proofs.setting.Setting.read.Goals as goal
@@ -23,3 +23,16 @@ returns-clause-ok c =
     (two_words string_bytes c.args.words.now c.index-words-0.result c.index-words-1.result (omega arith) c.index-words-0.is c.index-words-1.is
     ∙ cc (c.as_str-name.ensures.value, c.as_str-value.ensures.value))
     c.read_parameter.ensures.ok
+
+pub returns-then-eq-2-clause-memory : goal.returns-then-eq-2-clause-memory
+returns-then-eq-2-clause-memory c = λ is.
+    let named : c.as_str-name.result.now ≡ codes "--folder" = search rules in
+    let path = c.as_str-value.result.now in
+    let rest = map string_bytes (drop 2 c.args.words.now) in (
+      path,
+      rest,
+      c.read_folder.ensures.memory is,
+      two_words string_bytes c.args.words.now c.index-words-0.result c.index-words-1.result (omega arith) c.index-words-0.is c.index-words-1.is
+          ∙ cc (c.as_str-name.ensures.value, c.as_str-value.ensures.value)
+          ∙ ap (λ (w : List ℕ). w ∷ path ∷ rest) named,
+    )
