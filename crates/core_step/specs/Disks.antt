@@ -79,3 +79,9 @@ put_mark turns = if turns.put_fails then Halted else Done
 abbrev pub told_mark : List Medium → Option ℕ → Option Mark
 told_mark media None = Some Done
 told_mark media (Some segment) = option_map put_mark (medium_at media segment).turns
+
+-- how many journals a node of a role has
+abbrev pub journals_of : Shape → Role → ℕ
+journals_of config (StorageRole shard own) = config.replicas
+journals_of config (GathererRole index) = 0
+journals_of config (OrdererRole index) = 1

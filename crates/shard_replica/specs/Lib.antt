@@ -6,3 +6,4 @@ pub mod Lists
 pub mod Replica
 pub mod Rows
 pub mod Tested
+pub mod Telling

@@ -7,6 +7,7 @@ ghost use Rattle.record_frame.specs.Entries.{head_of as head_in};
 ghost use Rattle.log_model.specs.Pairs.{offset_of, last_of};
 ghost use Rattle.log_model.specs.Storage.{IsSpelled, entry_in};
 ghost use Rattle.shard_replica.specs.Index.{Indexes, to_ℕ};
+ghost use Rattle.shard_replica.specs.Telling.{AreTold};
 ghost use Rattle.shard_replica.specs.Lists.{Listed, HoldsRecords, PutsAt, ReloadsAll, HasRoomFor, segments_of, media_of, segment_at, medium_at, after_put, but_room, but_turns, turns_after, answer_of, segments_after};
 
 use crate::lists::{LastReload, Lists};
@@ -173,6 +174,13 @@ impl<J: Journal> IndexedLists<J> {
         self.pairs.clear();
         note_all(&self.lists, self.own, &mut self.pairs);
         answer
+    }
+
+    /// What is told of the journals is what they tell. It does nothing.
+    pub fn tell(&self)
+        ensures { AreTold J.state J.faults J.keeps_synced J.turns (length self.now.lists.segments) self.now.lists.media }
+    {
+        self.lists.tell();
     }
 
     /// Gives the journals back.

@@ -5,6 +5,7 @@ ghost use Rattle.std.specs.List.{All};
 ghost use Rattle.log_model.specs.Storage.{IsSpelled, entry_in};
 ghost use Rattle.segment_journal.specs.Journalled.{planned};
 ghost use Rattle.shard_replica.specs.Lists.{Listed, HoldsRecords, PutsAt, ReloadsAll, HasRoomFor, medium_of, segments_of, media_of, segment_at, medium_at, after_put, but_room, but_turns, turns_after, answer_of, came_to, is_one_more, segments_after, reopened_all};
+ghost use Rattle.shard_replica.specs.Telling.{AreTold};
 ghost use Rattle.shard_replica.specs.Journals.{AllHold, IsKnown, journal_at, turns_at, states_of, roomless, unread};
 
 use disk_base::Plan;
@@ -150,6 +151,13 @@ impl<J: Journal> Lists<J> {
             }
             _ => return Installed::Failed,
         }
+    }
+
+    /// What is told of the journals is what they tell. It does nothing.
+    pub fn tell(&self)
+        ensures { AreTold J.state J.faults J.keeps_synced J.turns (length self.now.segments) self.now.media }
+    {
+        let _ = &self.journals;
     }
 
     /// Gives the journals back.

@@ -14,6 +14,7 @@ ghost use Rattle.node_model.specs.StorageNode.{member_of};
 ghost use Rattle.log_model.specs.Storage.{knowledge_of};
 ghost use Rattle.node_table.specs.declared.role.Role.TheVariants.{Storage};
 ghost use Rattle.shard_replica.specs.Lists.{HoldsRecords, but_room, but_turns, media_of, medium_at, segment_at, segments_of, turns_after};
+ghost use Rattle.shard_replica.specs.Telling.{AreTold};
 ghost use Rattle.storage_node.specs.Counting.{CountsOn};
 ghost use Rattle.storage_node.specs.Opening.{IsOpening, RoseIn, mark_after};
 ghost use Rattle.storage_node.specs.Preparing.{IsReady};
@@ -206,6 +207,13 @@ impl<J: Journal, P: Places> StorageNode<J, P> {
         ensures rests { RestsIn self.old.mode self.old.replica.state.segments }
     {
         self.replica.plan(plan);
+    }
+
+    /// What is told of the journals is what they tell, one for each segment. It does nothing.
+    pub fn tell(&self)
+        ensures { AreTold J.state J.faults J.keeps_synced J.turns (config_of self.now).replicas self.now.replica.media }
+    {
+        self.replica.tell();
     }
 
     /// Gives the journals back.

@@ -5,7 +5,9 @@ ghost use Rattle.node_model.specs.Durable.{payload_in_flight};
 ghost use Rattle.segment_journal.specs.Journalled.{planned};
 ghost use Rattle.shard_replica.specs.Journals.{states_of};
 ghost use Rattle.shard_replica.specs.Lists.{but_turns, media_of, medium_at};
-ghost use Rattle.core_step.specs.Disks.{media_in};
+ghost use Rattle.node_table.specs.Numbering.{role_at};
+ghost use Rattle.shard_replica.specs.Telling.{AreTold};
+ghost use Rattle.core_step.specs.Disks.{journals_of, media_in};
 ghost use Rattle.core_step.specs.Handed.{HoldsState};
 ghost use Rattle.core_step.specs.Standing.{state_of};
 
@@ -27,6 +29,15 @@ impl<J: Journal, P: Places> Node<J, P> {
             (medium_at (media_in J.state J.faults J.keeps_synced J.turns self.old.part) k).turns }
     {
         self.part.plan(plan);
+    }
+
+    /// What is told of the journals is what they tell: a storage node has one for each replica of its shard,
+    /// an orderer one, and a gatherer none. It does nothing.
+    pub fn tell(&self)
+        ensures { AreTold J.state J.faults J.keeps_synced J.turns (journals_of self.now.config (role_at self.now.config self.now.number))
+            (media_in J.state J.faults J.keeps_synced J.turns self.now.part) }
+    {
+        self.part.tell();
     }
 }
 

@@ -8,7 +8,8 @@ ghost use Rattle.shard_replica.specs.Journals.{states_of};
 ghost use Rattle.shard_replica.specs.Lists.{but_turns, media_of, medium_at, medium_of};
 ghost use Rattle.orderer_node.specs.Ordering.{node_of as orderer_state};
 ghost use Rattle.storage_node.specs.StorageState.{config_of, node_of};
-ghost use Rattle.core_step.specs.Disks.{media_in};
+ghost use Rattle.shard_replica.specs.Telling.{AreTold};
+ghost use Rattle.core_step.specs.Disks.{journals_of, media_in};
 ghost use Rattle.core_step.specs.Handed.{HasPlaceFor, HoldsState};
 ghost use Rattle.core_step.specs.Standing.{cluster_of, role_in, role_of, state_of};
 
@@ -34,6 +35,19 @@ impl<J: Journal, P: Places> Part<J, P> {
             Part::Storage(node) => plan_replica(node, plan),
             Part::Gatherer(_) => {}
             Part::Orderer(node) => plan_orderer(node, plan),
+        }
+    }
+}
+
+impl<J: Journal, P: Places> Part<J, P> {
+    /// What is told of the journals is what they tell. It does nothing.
+    pub(crate) fn tell(&self)
+        ensures { AreTold J.state J.faults J.keeps_synced J.turns (journals_of (cluster_of self.now) (role_of self.now)) (media_in J.state J.faults J.keeps_synced J.turns self.now) }
+    {
+        match self {
+            Part::Storage(node) => return node.tell(),
+            Part::Gatherer(_) => return,
+            Part::Orderer(_) => return,
         }
     }
 }

@@ -4,6 +4,7 @@ ghost use Rattle.std.specs.Prelude.{◌≡◌, ℕ, length, map, Some, IsSome, O
 ghost use Rattle.std.specs.List.{All};
 ghost use Rattle.shard_replica.specs.Lists.{HoldsRecords, ReloadsAll, segments_of, media_of, segment_at, medium_at, but_turns, turns_after, answer_of, segments_after};
 ghost use Rattle.shard_replica.specs.Replica.{state_after};
+ghost use Rattle.shard_replica.specs.Telling.{AreTold};
 
 use super::ShardReplica;
 use crate::lists::LastReload;
@@ -55,6 +56,13 @@ impl<J: Journal, P: Places> ShardReplica<J, P> {
         ensures reading { self.new.last_reload ≡ self.old.last_reload }
     {
         self.lists.plan(plan);
+    }
+
+    /// What is told of the journals is what they tell, one for each segment. It does nothing.
+    pub fn tell(&self)
+        ensures { AreTold J.state J.faults J.keeps_synced J.turns self.now.state.config.replicas self.now.media }
+    {
+        self.lists.tell();
     }
 
     /// Gives the journals back.
