@@ -2,7 +2,7 @@
 use Rattle.std.proofs.Common.{◌≡◌, ◌+◌, ◌-◌, ◌*◌, ◌%◌, ◌^◌, ◌⊎◌, ℕ, zero, suc, Bool, true, false, cond, ◌==◌, nat_le, nat_lt, List, [], ◌∷◌, ◌++◌, length, drop, slice_get, slice_index_or, is_some, Option, Some, None, refl, sym, ap, subst, inl, inr, ⊎_elim}
 use Rattle.std.specs.List.{filter, list_any}
 use Rattle.std.proofs.lemmas.Bool.{cond_both}
-use Rattle.command_frame.specs.declared.replies.Reply.{NoSuchShard, Nothing as Silence, Taken as TakenWish}
+use Rattle.reply_frame.specs.declared.replies.Reply.{NoSuchShard, Nothing as Silence, Taken as TakenWish}
 use Rattle.history_frame.specs.declared.events.Sent.{Sent}
 use Rattle.history_frame.specs.declared.inputs.Call.{Call}
 use Rattle.history_frame.specs.declared.inputs.Call.TheVariants.{Ask, Read, Request, Settled, Submit}

@@ -1,6 +1,6 @@
 -- Each outcome of an event keeps values fine, from any start.
 use Rattle.std.proofs.Common.{◌≡◌, ◌*◌, ℕ, List, [], ◌∷◌, ◌++◌, Option, Some, None, sym, ap, subst, ⊎_elim}
-use Rattle.command_frame.specs.declared.replies.Reply.{Reply, Nothing as Silence, Halted as HaltedReply}
+use Rattle.reply_frame.specs.declared.replies.Reply.{Reply, Nothing as Silence, Halted as HaltedReply}
 use Rattle.history_frame.specs.declared.inputs.Input.{Input}
 use Rattle.history_frame.specs.declared.inputs.Mark.{Mark}
 use Rattle.log_base.specs.ClusterShape.{Shape}

@@ -1,6 +1,6 @@
 -- Every outcome of an event at an orderer keeps what holds: rows, halts, stops and restarts.
 use Rattle.std.proofs.Common.{◌≡◌, ◌<◌, ℕ, List, [], Some, sym, subst}
-use Rattle.command_frame.specs.declared.replies.Reply.{Reply, Nothing as Silence, Down, Halted as HaltedReply}
+use Rattle.reply_frame.specs.declared.replies.Reply.{Reply, Nothing as Silence, Down, Halted as HaltedReply}
 use Rattle.history_frame.specs.declared.inputs.Input.{Input}
 use Rattle.history_frame.specs.declared.inputs.Mark.{Mark}
 use Rattle.log_base.specs.ClusterShape.{Shape}

@@ -1,7 +1,7 @@
 -- Every row keeps what holds.
 use Rattle.std.proofs.Common.{◌<◌, ℕ, List, [], ◌∷◌, ◌++◌, length, Option, Some, None, refl}
 use Rattle.std.proofs.lemmas.Bool.{cond_both}
-use Rattle.command_frame.specs.declared.replies.Reply.{Reply, NotLeading, NoSuchShard, Taken as TakenWish}
+use Rattle.reply_frame.specs.declared.replies.Reply.{Reply, NotLeading, NoSuchShard, Taken as TakenWish}
 use Rattle.history_frame.specs.declared.inputs.Call.{Call}
 use Rattle.history_frame.specs.declared.inputs.Call.TheVariants.{Submit, Ask, Read, Request, Settled}
 use Rattle.history_frame.specs.declared.inputs.Input.{Input}

@@ -1,7 +1,7 @@
 -- The rows that put: a new ballot, a promise, a vote.
 use Rattle.std.proofs.Common.{◌≡◌, ◌<◌, ◌≤◌, ◌%◌, ◌^◌, ℕ, cond, nat_lt, nat_le, ◌==◌, List, [], ◌∷◌, ◌++◌, length, Some, None, refl, sym, ap, subst, inl, arith, eqb-true, ltb-false, append-nil, ◌∙◌}
 use Rattle.std.proofs.lemmas.Bool.{cond_both}
-use Rattle.command_frame.specs.declared.replies.Reply.{Nothing as Silence}
+use Rattle.reply_frame.specs.declared.replies.Reply.{Nothing as Silence}
 use Rattle.log_base.specs.ClusterShape.{Shape}
 use Rattle.message_frame.specs.declared.messages.Vote.{Vote}
 use Rattle.record_frame.specs.declared.values.Value.{Value}

@@ -2,5 +2,3 @@ pub mod FrameLaws
 pub mod ItemLaws
 pub mod Limits
 pub mod MadeItems
-pub mod Puts
-pub mod ReplyLaws

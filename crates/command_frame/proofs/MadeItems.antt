@@ -6,7 +6,7 @@ use Rattle.std.proofs.lemmas.List.FromFn.{map-range_with_len_more}
 use Rattle.std.proofs.lemmas.List.Concat.{flat_map-append}
 use Rattle.log_base.specs.Wide.{be2, be4}
 use Rattle.log_base.proofs.Wide.{length-be2}
-use Rattle.command_frame.specs.Frames.{frame}
+use Rattle.reply_frame.specs.Frames.{frame}
 use Rattle.command_frame.specs.Making.{next_number, number_after}
 
 range_more_from : (from n : ℕ) → range_with_len from (suc n) ≡ range_with_len from n ++ (from + n) ∷ []

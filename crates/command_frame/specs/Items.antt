@@ -4,7 +4,7 @@ use Rattle.log_base.specs.ClusterShape.{Shape}
 use Rattle.log_base.specs.Wide.{IsBytes, be2, be8}
 use Rattle.command_frame.specs.declared.items.Item.{Item}
 use Rattle.command_frame.specs.declared.items.Item.TheVariants.{Append, Read, Add}
-use Rattle.command_frame.specs.Frames.{frame}
+use Rattle.reply_frame.specs.Frames.{frame}
 
 -- the kind of an item's frame, and its body
 abbrev pub item_kind : Item → ℕ

@@ -1,12 +1,10 @@
--- What the spellings of items and replies promise.
+-- What the spellings of items promise.
 use Rattle.std.specs.Prelude.{◌≡◌, ℕ, List, ◌++◌, Some}
 use Rattle.log_base.specs.ClusterShape.{Shape, InRange}
 use Rattle.log_base.specs.Wide.{IsBytes}
 use Rattle.command_frame.specs.declared.items.Item.{Item}
-use Rattle.command_frame.specs.declared.replies.Reply.{Reply}
 use Rattle.command_frame.specs.Items.{IsItem, Spells, item_kind, item_body, item_spelling}
 use Rattle.command_frame.specs.Reading.{item_of}
-use Rattle.command_frame.specs.Replies.{HasSpelling, IsReply, reply_bytes, reply_spelling}
 
 -- what is read from a kind and a body is spelled by them
 abbrev pub ReadIsSpelled : Type 0
@@ -20,14 +18,3 @@ SpelledIsRead = (shape : Shape) (item : Item) → InRange shape → IsItem shape
 abbrev pub OneItem : Type 0
 OneItem = (shape : Shape) (item other : Item) (rest more : List ℕ) → InRange shape → IsItem shape item → IsItem shape other
     → item_spelling item ++ rest ≡ item_spelling other ++ more → (item ≡ other) × (rest ≡ more)
-
--- no frame of a reply begins another
-abbrev pub OneReplyFrame : Type 0
-OneReplyFrame = (lane other : ℕ) (reply answer : Reply) (rest more : List ℕ) → HasSpelling reply → HasSpelling answer
-    → reply_spelling lane reply ++ rest ≡ reply_spelling other answer ++ more
-    → (lane ≡ other) × (reply_bytes reply ≡ reply_bytes answer) × (rest ≡ more)
-
--- no bytes of a reply begin another's
-abbrev pub OneReply : Type 0
-OneReply = (reply answer : Reply) (rest more : List ℕ) → IsReply reply → IsReply answer
-    → reply_bytes reply ++ rest ≡ reply_bytes answer ++ more → (reply_bytes reply ≡ reply_bytes answer) × (rest ≡ more)

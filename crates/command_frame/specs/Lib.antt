@@ -1,7 +1,5 @@
-pub mod Frames
 pub mod Items
 pub mod Laws
 pub mod Making
 pub mod Reader
 pub mod Reading
-pub mod Replies

@@ -5,7 +5,7 @@ use Rattle.std.specs.List.{flat_map, range_with_len}
 use Rattle.log_base.specs.ClusterShape.{Shape}
 use Rattle.log_base.specs.Wide.{be2, be8}
 use Rattle.command_frame.specs.declared.items.Item.TheVariants.{Append, Read, Add}
-use Rattle.command_frame.specs.Frames.{frame}
+use Rattle.reply_frame.specs.Frames.{frame}
 use Rattle.command_frame.specs.Items.{item_spelling}
 
 -- the number after this one

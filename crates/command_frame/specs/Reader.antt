@@ -5,8 +5,8 @@ use Rattle.log_base.specs.ClusterShape.{Shape}
 use Rattle.command_frame.specs.declared.items.Item.{Item}
 use Rattle.command_frame.specs.declared.answers.Next.{Next}
 use Rattle.command_frame.specs.declared.answers.Next.TheVariants.{Item as Given, End}
-use Rattle.command_frame.specs.declared.answers.ItemFault.{ItemFault}
-use Rattle.command_frame.specs.declared.answers.ItemFault.TheVariants.{Bad, Read, Many, Memory}
+use Rattle.reply_frame.specs.declared.faults.ItemFault.{ItemFault}
+use Rattle.reply_frame.specs.declared.faults.ItemFault.TheVariants.{Bad, Read, Many, Memory}
 use Rattle.command_frame.specs.Items.{IsItem, item_spelling, Counts, counted, passed_limit}
 
 -- A reader of items: its config, the bytes that it took from its source and has not used yet, how many it took,

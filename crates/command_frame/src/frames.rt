@@ -6,9 +6,10 @@ ghost use Rattle.log_base.specs.Outside.{Rose, unread, ReadsOn, TakesOn};
 ghost use Rattle.log_base.specs.Shape.{shape};
 ghost use Rattle.command_frame.specs.Reader.{Finds};
 
-use crate::answers::{ItemFault, Next};
+use crate::answers::Next;
 use crate::reading::read_item;
 use log_base::{Config, PieceReader, Source, Stop, number_u32};
+use reply_frame::ItemFault;
 use std::alloc::Global;
 
 /// How long a frame of an item may be behind its length.

@@ -6,10 +6,11 @@ ghost use Rattle.log_base.specs.Shape.{shape};
 ghost use Rattle.command_frame.specs.Items.{IsItem, item_spelling, counted, none_yet, passed_limit};
 ghost use Rattle.command_frame.specs.Reader.{Answers, Moves};
 
-use crate::answers::{ItemFault, Next};
+use crate::answers::Next;
 use crate::frames::read_framed;
 use crate::items::{Item, record_length, spelled_length};
 use log_base::{Config, PieceReader, Source};
+use reply_frame::ItemFault;
 use std::alloc::Global;
 use std::marker::Model;
 

@@ -1,6 +1,6 @@
 //! What holds of every spelling.
 
-ghost use Rattle.command_frame.specs.Laws.{ReadIsSpelled, SpelledIsRead, OneItem, OneReply, OneReplyFrame};
+ghost use Rattle.command_frame.specs.Laws.{ReadIsSpelled, SpelledIsRead, OneItem};
 
 /// What is read from a frame's kind and body is spelled so, and what is spelled is read again.
 pub fn item_spelled()
@@ -8,9 +8,7 @@ pub fn item_spelled()
     ensures spelled { SpelledIsRead }
 {}
 
-/// No spelling of an item begins another; nor does a reply, nor the frame of a reply.
+/// No spelling of an item begins another.
 pub fn one_spelling()
     ensures item { OneItem }
-    ensures reply { OneReply }
-    ensures frame { OneReplyFrame }
 {}

@@ -1,5 +1,4 @@
-//! Vectors of items and replies, what is no item, the limits, and items that are made.
+//! Vectors of items, what is no item, the limits, and items that are made.
 
 mod items;
 mod making;
-mod replies;

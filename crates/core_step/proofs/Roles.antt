@@ -1,6 +1,6 @@
 -- A node of any role follows its role's row: what fits it fits its part, and what its part does is its row.
 use Rattle.std.proofs.Common.{◌≡◌, ℕ, List, Some, refl, sym, ap, subst, ◌∙◌}
-use Rattle.command_frame.specs.declared.replies.Reply.{Reply}
+use Rattle.reply_frame.specs.declared.replies.Reply.{Reply}
 use Rattle.history_frame.specs.declared.events.Happened.{Happened}
 use Rattle.history_frame.specs.declared.events.Sent.{Sent}
 use Rattle.history_frame.specs.declared.inputs.Input.{Input}

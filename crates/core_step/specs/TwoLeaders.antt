@@ -2,7 +2,7 @@
 -- the addition of shard 0 in slot 0. Orderer 1 casts it and crashes before it answers; when it starts again its vote
 -- is there. Then orderer 2 leads with ballot 5, hears of that vote and proposes its value, which is decided.
 use Rattle.std.specs.Prelude.{ℕ, List, [], ◌∷◌, ◌++◌, Some}
-use Rattle.command_frame.specs.declared.replies.Reply.{Nothing, Taken}
+use Rattle.reply_frame.specs.declared.replies.Reply.{Nothing, Taken}
 use Rattle.history_frame.specs.declared.events.Event.{Event}
 use Rattle.history_frame.specs.declared.events.Sent.{Sent}
 use Rattle.history_frame.specs.declared.inputs.Call.TheVariants.{Request}

@@ -1,7 +1,7 @@
 -- Only the tick of a gatherer that runs puts letters out.
 use Rattle.std.proofs.Common.{◌≡◌, ℕ, Bool, true, false, cond, List, [], Option, Some, None, refl, sym, subst}
 use Rattle.aggregator.specs.Hearing.{Hearing}
-use Rattle.command_frame.specs.declared.replies.Reply.{Down}
+use Rattle.reply_frame.specs.declared.replies.Reply.{Down}
 use Rattle.event_letters.specs.Letters.{EventLetters, HasSpace}
 use Rattle.event_letters.proofs.Spaces.{no_letters}
 use Rattle.history_frame.specs.declared.events.Sent.{Sent}

@@ -2,8 +2,8 @@
 use Rattle.std.proofs.Common.{◌≡◌, ℕ, ◌+◌, ◌*◌, ◌≤◌, true, List, [], ◌∷◌, ◌++◌, length, ap, arith, length-append}
 use Rattle.std.specs.List.{AllByRecursion, flat_map}
 use Rattle.std.proofs.lemmas.List.Concat.{flat_map-cons}
-use Rattle.command_frame.specs.declared.replies.Reply.{Reply, Nothing}
-use Rattle.command_frame.specs.Replies.{reply_bytes}
+use Rattle.reply_frame.specs.declared.replies.Reply.{Reply, Nothing}
+use Rattle.reply_frame.specs.Replies.{reply_bytes}
 use Rattle.history_frame.specs.declared.events.Happened.{Happened}
 use Rattle.history_frame.specs.declared.events.Sent.{Sent}
 use Rattle.history_frame.specs.declared.inputs.Input.{Input}

@@ -2,7 +2,7 @@
 
 ghost use Rattle.std.specs.Prelude.{◌≡◌, ℕ, ◌<◌, ◌≤◌, [], ◌++◌, length, map, false, Some, OnOk};
 ghost use Rattle.std.specs.List.{AllByRecursion};
-ghost use Rattle.command_frame.specs.declared.replies.Reply.{Nothing};
+ghost use Rattle.reply_frame.specs.declared.replies.Reply.{Nothing};
 ghost use Rattle.event_letters.specs.Letters.{parcel};
 ghost use Rattle.history_frame.specs.declared.inputs.Input.TheVariants.{Deliver, Tick};
 ghost use Rattle.history_frame.specs.declared.inputs.Mark.TheVariants.{Done};
@@ -20,12 +20,12 @@ ghost use Rattle.gatherer_node.specs.Gatherer.{IsReady, IsShort, is_stopped};
 use crate::activity::Activity;
 use crate::sending::{ready_leasts, send_leasts};
 use aggregator::Reports;
-use command_frame::Reply;
 use event_letters::EventLetters;
 use history_frame::{Happened, Input, Mark};
 use log_base::{Config, Memory, Outbox, Replica, Shard};
 use message_frame::Message;
 use record_frame::Lengths;
+use reply_frame::Reply;
 use std::alloc::Global;
 use std::marker::Model;
 

@@ -5,7 +5,7 @@ use Rattle.std.proofs.KnownBytes.{Consumes-trans}
 use Rattle.std.specs.Io.KnownBytes.{Consumes, IsAtEnd}
 use Rattle.log_base.specs.Wide.{IsBytes, be4, number4}
 use Rattle.log_base.proofs.Wide.{length-be4, number4-be4, be4-number4}
-use Rattle.command_frame.specs.Frames.{frame}
+use Rattle.reply_frame.specs.Frames.{frame}
 use Rattle.history_frame.specs.declared.pieces.Piece.{Piece}
 use Rattle.history_frame.specs.declared.stages.Stage.{Stage}
 use Rattle.history_frame.specs.Frames.{Means, Spells, IsNone}

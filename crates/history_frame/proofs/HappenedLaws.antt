@@ -12,8 +12,8 @@ use Rattle.record_frame.specs.declared.refusals.Refusal.{Refusal}
 use Rattle.record_frame.specs.declared.refusals.Refusal.TheVariants.{BadNumber, Long}
 use Rattle.record_frame.specs.Fields.{◌>>=◌, StandsAt, u8_at, u16_at, u32_at}
 use Rattle.record_frame.proofs.FieldLaws.{bind_ok, passes, given, ok_is, StandsAt-then, StandsAt-front, StandsAt-back, front_stands, u8_takes, u16_takes, u32_takes, u8_again, u16_again, u32_again}
-use Rattle.command_frame.specs.declared.replies.Reply.{Reply}
-use Rattle.command_frame.specs.Replies.{IsReply, reply_bytes}
+use Rattle.reply_frame.specs.declared.replies.Reply.{Reply}
+use Rattle.reply_frame.specs.Replies.{IsReply, reply_bytes}
 use Rattle.history_frame.specs.declared.inputs.Input.{Input}
 use Rattle.history_frame.specs.declared.inputs.Mark.{Mark}
 use Rattle.history_frame.specs.declared.events.Sent.{Sent}

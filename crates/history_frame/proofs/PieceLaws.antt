@@ -10,7 +10,7 @@ use Rattle.record_frame.specs.declared.refusals.Refusal.{Refusal}
 use Rattle.record_frame.specs.declared.refusals.Refusal.TheVariants.{Short, TooLong, BadKind, BadNumber, Long, Memory}
 use Rattle.record_frame.specs.Fields.{Refuses}
 use Rattle.record_frame.proofs.FieldLaws.{ok_is}
-use Rattle.command_frame.specs.declared.replies.Reply.{Reply}
+use Rattle.reply_frame.specs.declared.replies.Reply.{Reply}
 use Rattle.history_frame.specs.declared.events.Happened.{Happened}
 use Rattle.history_frame.specs.declared.events.Kept.{Kept}
 use Rattle.history_frame.specs.declared.pieces.Piece.{Piece}

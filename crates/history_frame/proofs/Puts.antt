@@ -5,8 +5,8 @@ use Rattle.std.specs.List.{flat_map}
 use Rattle.log_base.specs.ClusterShape.{Shape}
 use Rattle.log_base.specs.Wide.{be2, be4}
 use Rattle.log_base.proofs.Wide.{length-be2, length-be4}
-use Rattle.command_frame.specs.Replies.{reply_bytes}
-use Rattle.command_frame.proofs.Puts.{two_puts}
+use Rattle.reply_frame.specs.Replies.{reply_bytes}
+use Rattle.reply_frame.proofs.Puts.{two_puts}
 use Rattle.history_frame.specs.declared.events.Event.{Event}
 use Rattle.history_frame.specs.Spelling.{event_size, event_spelling, front_spelling, happened_spelling, head_spelling, input_spelling, mark_byte, sent_spelling}
 

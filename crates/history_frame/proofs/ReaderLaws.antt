@@ -4,8 +4,8 @@ use Rattle.std.specs.Io.KnownBytes.{Consumes, IsAtEnd}
 use Rattle.log_base.specs.Outside.{unread, ReadsOn}
 use Rattle.log_base.specs.Wide.{be4}
 use Rattle.log_base.proofs.Wide.{length-be4}
-use Rattle.command_frame.specs.declared.answers.ItemFault.{ItemFault}
-use Rattle.command_frame.specs.declared.answers.ItemFault.TheVariants.{Bad, Read, Many, Memory}
+use Rattle.reply_frame.specs.declared.faults.ItemFault.{ItemFault}
+use Rattle.reply_frame.specs.declared.faults.ItemFault.TheVariants.{Bad, Read, Many, Memory}
 use Rattle.history_frame.specs.declared.pieces.Piece.{Piece}
 use Rattle.history_frame.specs.declared.pieces.Piece.TheVariants.{Reply as AReply, Head, Kept as AKept, Event as AnEvent, End}
 use Rattle.history_frame.specs.declared.stages.Stage.{Stage}

@@ -12,8 +12,8 @@ use Rattle.record_frame.specs.Fields.{◌>>=◌, StandsAt, u8_at, u16_at, u32_at
 use Rattle.record_frame.proofs.FieldLaws.{bind_ok, passes, given, ok_is, StandsAt-then, StandsAt-front, StandsAt-back, u8_takes, u16_takes, u32_takes, u64_takes, u16_again, u32_again, u64_again}
 use Rattle.message_frame.proofs.Groups.{two_again}
 use Rattle.message_frame.proofs.Parts.{u16_part, u64_part}
-use Rattle.command_frame.specs.declared.replies.Reply.{Reply, Nothing, Stored, At, Found, PendingAsk, PendingRead, PendingWish, Finalised, FinalisedAt, NotAdded, Stale, Full, Halted, Down, Missing, Trimmed, Elsewhere, Taken as TakenFrom, NoSuchShard, NotLeading, Settled, Stream', NoLeader, NoLetter, NothingKept, Done, Spent}
-use Rattle.command_frame.specs.Replies.{IsShort, IsNodeAnswer, IsReply, entry_bytes, reply_bytes}
+use Rattle.reply_frame.specs.declared.replies.Reply.{Reply, Nothing, Stored, At, Found, PendingAsk, PendingRead, PendingWish, Finalised, FinalisedAt, NotAdded, Stale, Full, Halted, Down, Missing, Trimmed, Elsewhere, Taken as TakenFrom, NoSuchShard, NotLeading, Settled, Stream', NoLeader, NoLetter, NothingKept, Done, Spent}
+use Rattle.reply_frame.specs.Replies.{IsShort, IsNodeAnswer, IsReply, entry_bytes, reply_bytes}
 use Rattle.history_frame.specs.Widths.{ReplyFits}
 use Rattle.history_frame.specs.ReplyReading.{Told, told, plain, stream, plain_entries_at, is_wide, is_narrow, wide_reply, narrow_reply, bare_reply, wide_reply_at, narrow_reply_at, bare_reply_at, found_at, elsewhere_at, plain_reply_at, answer_at, stream_at, reply_at}
 use Rattle.history_frame.proofs.ByKind.{Taken, by_kind, one_kind, two_kind, kind_takes, kind_again}

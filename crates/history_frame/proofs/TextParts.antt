@@ -12,7 +12,7 @@ use Rattle.record_frame.proofs.FieldLaws.{bind_ok, passes, given, ok_is, StandsA
 use Rattle.record_frame.proofs.Reasons.{NeedsNone, u32_at-needs_none, end_at-needs_none}
 use Rattle.message_frame.proofs.Groups.{three_take, three_again, three_need_none}
 use Rattle.message_frame.proofs.Parts.{IsPart, bind, choice, gives, u16_part, u64_part}
-use Rattle.command_frame.specs.Replies.{entry_bytes}
+use Rattle.reply_frame.specs.Replies.{entry_bytes}
 use Rattle.history_frame.specs.ReplyReading.{bytes_end, bytes_at, plain_entry_at}
 
 IsBytes-take : (n : ℕ) (bytes : List ℕ) → IsBytes bytes → IsBytes (take n bytes)

@@ -4,9 +4,9 @@ use Rattle.log_base.specs.Shape.{shape}
 use Rattle.log_base.specs.declared.cluster_shape.Config.{Config}
 use Rattle.record_frame.specs.declared.refusals.Refusal.{Refusal}
 use Rattle.record_frame.specs.declared.refusals.Refusal.TheVariants.{Short, TooLong, BadKind, BadNumber, Long, Memory}
-use Rattle.command_frame.specs.Frames.{frame}
-use Rattle.command_frame.specs.Replies.{IsReply, reply_bytes}
-use Rattle.command_frame.specs.declared.replies.Reply.{Reply}
+use Rattle.reply_frame.specs.Frames.{frame}
+use Rattle.reply_frame.specs.Replies.{IsReply, reply_bytes}
+use Rattle.reply_frame.specs.declared.replies.Reply.{Reply}
 use Rattle.history_frame.specs.declared.inputs.Input.{Input}
 use Rattle.history_frame.specs.declared.inputs.Input.TheVariants.{Deliver, Call as ACall, Tick, Lead, Stop, Restart}
 use Rattle.history_frame.specs.declared.events.Event.{Event}

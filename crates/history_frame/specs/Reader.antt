@@ -1,8 +1,8 @@
 -- What a reader of a history answers, and what it is then.
 use Rattle.std.specs.Prelude.{◌≡◌, ◌⊎◌, ℕ, ◌+◌, ◌-◌, ◌<◌, ◌≤◌, ◌^◌, min, List, [], ◌++◌, length, nat_lt, if◌then◌else◌, ⊤, Option, Some, None, Result, Ok, Err}
 use Rattle.std.specs.Io.KnownBytes.{Consumes, IsAtEnd}
-use Rattle.command_frame.specs.declared.answers.ItemFault.{ItemFault}
-use Rattle.command_frame.specs.declared.answers.ItemFault.TheVariants.{Bad, Read, Many, Memory}
+use Rattle.reply_frame.specs.declared.faults.ItemFault.{ItemFault}
+use Rattle.reply_frame.specs.declared.faults.ItemFault.TheVariants.{Bad, Read, Many, Memory}
 use Rattle.history_frame.specs.declared.pieces.Piece.{Piece}
 use Rattle.history_frame.specs.declared.pieces.Piece.TheVariants.{Reply as AReply, Head, Kept as AKept, Event as AnEvent, End}
 use Rattle.history_frame.specs.declared.stages.Stage.{Stage}

@@ -7,7 +7,7 @@ use Rattle.record_frame.specs.declared.refusals.Refusal.{Refusal}
 use Rattle.record_frame.specs.declared.refusals.Refusal.TheVariants.{TooLong, BadKind}
 use Rattle.record_frame.specs.Entries.{entry_of}
 use Rattle.record_frame.specs.Fields.{◌>>=◌, end_at, u8_at, u16_at, u32_at, u64_at}
-use Rattle.command_frame.specs.declared.replies.Reply.{Reply, Nothing, Stored, At, Found, PendingAsk, PendingRead, PendingWish, Finalised, FinalisedAt, NotAdded, Stale, Full, Halted, Down, Missing, Trimmed, Elsewhere, Taken, NoSuchShard, NotLeading, Settled, Stream', NoLeader, NoLetter, NothingKept, Done, Spent}
+use Rattle.reply_frame.specs.declared.replies.Reply.{Reply, Nothing, Stored, At, Found, PendingAsk, PendingRead, PendingWish, Finalised, FinalisedAt, NotAdded, Stale, Full, Halted, Down, Missing, Trimmed, Elsewhere, Taken, NoSuchShard, NotLeading, Settled, Stream', NoLeader, NoLetter, NothingKept, Done, Spent}
 
 -- ---- bytes behind their number
 

@@ -8,8 +8,8 @@ use Rattle.log_base.specs.Wide.{be2, be4, be8}
 use Rattle.record_frame.specs.Entries.{entry_spelling, entry_of}
 use Rattle.record_frame.specs.Values.{IsValue, value_spelling}
 use Rattle.message_frame.specs.Spelling.{IsMessage, message_spelling}
-use Rattle.command_frame.specs.Frames.{frame}
-use Rattle.command_frame.specs.Replies.{IsReply, reply_bytes}
+use Rattle.reply_frame.specs.Frames.{frame}
+use Rattle.reply_frame.specs.Replies.{IsReply, reply_bytes}
 use Rattle.history_frame.specs.declared.inputs.Call.{Call}
 use Rattle.history_frame.specs.declared.inputs.Call.TheVariants.{Submit, Ask, Read, Request, Settled}
 use Rattle.history_frame.specs.declared.inputs.Input.{Input}

@@ -9,9 +9,9 @@ ghost use Rattle.history_frame.specs.Reading.{happened_told, lane_reply_at, lane
 use crate::events::{Happened, Kept};
 use crate::reading::read_happened;
 use crate::reply_reading::read_reply;
-use command_frame::Reply;
 use log_base::{Bytes, Config, NodeId};
 use record_frame::{Refusal, read_u8, read_u16, read_u32};
+use reply_frame::Reply;
 use std::alloc::Global;
 
 /// The greatest number of a run.

@@ -1,9 +1,9 @@
 //! Events and histories.
 
 use crate::inputs::{Input, Mark};
-use command_frame::Reply;
 use log_base::{Bytes, Config, List, NodeId};
 use message_frame::Message;
+use reply_frame::Reply;
 
 /// A letter that a node sends.
 #[derive(Debug, Drop)]

@@ -8,8 +8,8 @@ ghost use Rattle.history_frame.specs.Reader.{FindsFrame};
 use crate::frame_reading::find_piece;
 use crate::pieces::Piece;
 use crate::stages::Stage;
-use command_frame::ItemFault;
 use log_base::{Memory, PieceReader, Source, Stop, number_u32};
+use reply_frame::ItemFault;
 use std::alloc::Global;
 
 /// How long a frame may be behind its length.

@@ -10,8 +10,8 @@ use crate::frames::read_framed;
 use crate::lengths::event_length;
 use crate::pieces::Piece;
 use crate::stages::Stage;
-use command_frame::ItemFault;
 use log_base::{PieceReader, Source};
+use reply_frame::ItemFault;
 use std::alloc::Global;
 use std::marker::Model;
 

@@ -6,9 +6,9 @@ ghost use Rattle.history_frame.specs.Spelling.{IsCall, IsInput, IsSent, IsHappen
 
 use crate::events::{Happened, Sent};
 use crate::inputs::{Call, Input};
-use command_frame::reply_length;
 use message_frame::message_length;
 use record_frame::value_length;
+use reply_frame::reply_length;
 
 /// How many bytes spell a call.
 #[tactic(auto, unfolding(log_base::specs::Wide::be2, log_base::specs::Wide::be4, log_base::specs::Wide::be8))]

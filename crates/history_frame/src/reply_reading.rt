@@ -4,9 +4,9 @@ ghost use Rattle.std.specs.Prelude.{◌≡◌, ℕ, ◌+◌, ◌≤◌, length, 
 ghost use Rattle.record_frame.specs.Fields.{Gives};
 ghost use Rattle.history_frame.specs.ReplyReading.{told, bytes_end, plain_entry_at, plain_entries_at, is_wide, is_narrow, wide_reply, narrow_reply, bare_reply, wide_reply_at, narrow_reply_at, bare_reply_at, found_at, elsewhere_at, plain_reply_at, answer_at, stream_at, reply_at};
 
-use command_frame::Reply;
 use log_base::{Bytes, Client, List, Number, Position, Shard, Slot};
 use record_frame::{Entry, Refusal, field_end, read_u8, read_u16, read_u32, read_u64};
+use reply_frame::Reply;
 use std::alloc::Global;
 
 /// The greatest length of a record.

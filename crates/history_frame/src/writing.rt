@@ -9,9 +9,9 @@ ghost use Rattle.history_frame.specs.Writing.{Extends};
 use crate::events::{Event, History, Kept, Sent};
 use crate::input_writing::{byte_of, put_input};
 use crate::lengths::{event_length, input_length};
-use command_frame::{put_reply, reply_length};
 use log_base::{Config, Memory, put_bytes, put_u8, put_u16, put_u32};
 use message_frame::{encode, message_length};
+use reply_frame::{put_reply, reply_length};
 
 /// The kinds of the frames.
 const HEAD: u8 = 0x60;

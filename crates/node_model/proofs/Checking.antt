@@ -2,7 +2,7 @@
 use Rattle.std.proofs.Common.{◌≡◌, ℕ, ◌<◌, Bool, true, ◌&&◌, List, [], ◌∷◌, length, Option, Some, None, is_some, is_none, refl}
 use Rattle.std.proofs.lemmas.Bool.{and_parts}
 use Rattle.std.specs.List.{AllByRecursion}
-use Rattle.command_frame.specs.declared.replies.Reply.{Nothing}
+use Rattle.reply_frame.specs.declared.replies.Reply.{Nothing}
 use Rattle.history_frame.specs.declared.events.Event.{Event}
 use Rattle.log_base.specs.ClusterShape.{Shape}
 use Rattle.node_table.specs.Numbering.{nodes_of, role_at}

@@ -2,7 +2,7 @@
 use Rattle.std.proofs.Common.{◌≡◌, ℕ, ◌+◌, ◌-◌, ◌*◌, ◌/◌, ◌%◌, ◌^◌, ◌≤◌, Bool, true, false, cond, ◌==◌, nat_le, nat_lt, List, [], length, Option, Some, None, refl, arith, leb-false}
 use Rattle.std.proofs.lemmas.Bool.{cond_both}
 use Rattle.std.proofs.Math.Nat.{mul-le-mul_right}
-use Rattle.command_frame.specs.declared.replies.Reply.{Nothing as Silence}
+use Rattle.reply_frame.specs.declared.replies.Reply.{Nothing as Silence}
 use Rattle.history_frame.specs.declared.inputs.Call.{Call}
 use Rattle.history_frame.specs.declared.inputs.Call.TheVariants.{Submit, Ask, Read, Request, Settled}
 use Rattle.history_frame.specs.declared.inputs.Input.{Input}

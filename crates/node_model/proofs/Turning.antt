@@ -4,7 +4,7 @@ use Rattle.history_frame.specs.declared.inputs.Input.{Input}
 use Rattle.history_frame.specs.declared.inputs.Input.TheVariants.{Deliver, Call as ACall, Tick, Lead, Stop, Restart}
 use Rattle.history_frame.specs.declared.inputs.Mark.{Mark}
 use Rattle.history_frame.specs.declared.inputs.Mark.TheVariants.{Done, Halted, OpenedWithout, OpenedWith, StayedDown}
-use Rattle.command_frame.specs.declared.replies.Reply.{Down}
+use Rattle.reply_frame.specs.declared.replies.Reply.{Down}
 use Rattle.node_model.specs.Marks.{ChangeOf, Mode, NodeOf, OutcomeOf, RoleOf, Running, Stopped, as_stopped, down_made, flight_of, halted, is_named, made_by, opened_with, restarted, row_made, silent, stop_made, to_call, usual_made}
 use Rattle.node_model.specs.Turning.{Turned, Ran, Fell, Slept, Stopped_now, Opened, Opened_more}
 

@@ -2,7 +2,7 @@
 -- how much all replicas of a shard hold.
 use Rattle.std.specs.Prelude.{ℕ, zero, suc, ◌%◌, List, [], ◌++◌, Bool, true, false, ◌==◌, if◌then◌else◌, Option, Some, None}
 use Rattle.aggregator.specs.Hearing.{Hearing, after_note, fresh, least_in}
-use Rattle.command_frame.specs.declared.replies.Reply.{Nothing}
+use Rattle.reply_frame.specs.declared.replies.Reply.{Nothing}
 use Rattle.history_frame.specs.declared.events.Sent.{Sent}
 use Rattle.history_frame.specs.declared.inputs.Call.{Call}
 use Rattle.history_frame.specs.declared.inputs.Input.{Input}

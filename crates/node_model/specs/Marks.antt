@@ -1,7 +1,7 @@
 -- A node, a row of the rules, and what stands after an event by its mark. All roles share this. They differ in what a
 -- node stores (D), what is put there (P), what a node knows (K), what it remembers while it runs (M), and in their rows.
 use Rattle.std.specs.Prelude.{List, [], Bool, true, false, if◌then◌else◌, Option, Some, None}
-use Rattle.command_frame.specs.declared.replies.Reply.{Reply, Nothing, Down, Halted as HaltedReply}
+use Rattle.reply_frame.specs.declared.replies.Reply.{Reply, Nothing, Down, Halted as HaltedReply}
 use Rattle.history_frame.specs.declared.events.Sent.{Sent}
 use Rattle.history_frame.specs.declared.inputs.Call.{Call}
 use Rattle.history_frame.specs.declared.inputs.Input.{Input}

@@ -1,7 +1,7 @@
 -- The nodes of a cluster, each by its role: what it is at first, what an event makes of it, and what stands after its
 -- events.
 use Rattle.std.specs.Prelude.{◌≡◌, ℕ, zero, suc, List, [], ◌∷◌, Option, Some, None}
-use Rattle.command_frame.specs.declared.replies.Reply.{Reply}
+use Rattle.reply_frame.specs.declared.replies.Reply.{Reply}
 use Rattle.history_frame.specs.declared.events.Event.{Event}
 use Rattle.history_frame.specs.declared.events.Happened.{Happened}
 use Rattle.history_frame.specs.declared.events.Sent.{Sent}

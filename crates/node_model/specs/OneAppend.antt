@@ -1,7 +1,7 @@
 -- A history of one shard with one replica, one gatherer and one orderer, which are nodes 0 to 2. The shard is added, a client
 -- appends a record, asks where it stands and reads it.
 use Rattle.std.specs.Prelude.{ℕ, ◌^◌, List, [], ◌∷◌, ◌++◌, replicate, Some}
-use Rattle.command_frame.specs.declared.replies.Reply.{Reply, At, Found, Nothing, Settled as SettledAt, Stored, Taken}
+use Rattle.reply_frame.specs.declared.replies.Reply.{Reply, At, Found, Nothing, Settled as SettledAt, Stored, Taken}
 use Rattle.history_frame.specs.declared.events.Event.{Event}
 use Rattle.history_frame.specs.declared.events.Sent.{Sent}
 use Rattle.history_frame.specs.declared.inputs.Call.{Call}

@@ -1,6 +1,6 @@
 -- The rule of an orderer: what it does at each input.
 use Rattle.std.specs.Prelude.{ℕ, zero, suc, ◌*◌, ◌%◌, ◌^◌, length, List, [], ◌∷◌, ◌++◌, Bool, true, false, not, ◌==◌, nat_le, if◌then◌else◌, Option, Some, None, slice_get}
-use Rattle.command_frame.specs.declared.replies.Reply.{Reply, Nothing as Silence, NotLeading, NoSuchShard, Taken as TakenWish, Settled as SettledAt, PendingWish}
+use Rattle.reply_frame.specs.declared.replies.Reply.{Reply, Nothing as Silence, NotLeading, NoSuchShard, Taken as TakenWish, Settled as SettledAt, PendingWish}
 use Rattle.history_frame.specs.declared.events.Sent.{Sent}
 use Rattle.history_frame.specs.declared.inputs.Call.{Call}
 use Rattle.history_frame.specs.declared.inputs.Call.TheVariants.{Request, Settled}

@@ -1,6 +1,6 @@
 -- The one sequence that a history makes: what is decided, the entry at each position, and what a client has seen of it.
 use Rattle.std.specs.Prelude.{◌≡◌, ℕ, List, [], map, nat_lt, if◌then◌else◌, Option, Some, None, slice_get}
-use Rattle.command_frame.specs.declared.replies.Reply.{Reply, At, Found}
+use Rattle.reply_frame.specs.declared.replies.Reply.{Reply, At, Found}
 use Rattle.history_frame.specs.declared.events.Event.{Event}
 use Rattle.history_frame.specs.declared.inputs.Call.{Call}
 use Rattle.history_frame.specs.declared.inputs.Call.TheVariants.{Submit, Ask, Read, Request, Settled}

@@ -1,6 +1,6 @@
 -- The rule of a storage node: what a replica of a shard does at each input.
 use Rattle.std.specs.Prelude.{ℕ, zero, suc, ◌%◌, length, List, [], ◌∷◌, ◌++◌, Bool, true, false, ◌==◌, if◌then◌else◌, Option, Some, None, slice_get, slice_index}
-use Rattle.command_frame.specs.declared.replies.Reply.{Reply, Nothing, Stored as StoredAt, Stale as StaleEntry, NotAdded as NoShard, Finalised as Closed, Full as NoRoom, At as StandsAt, PendingAsk, FinalisedAt as FrozenAt, Missing as NotThere, Found as FoundAt, Trimmed as GivenUp, PendingRead, Elsewhere as OtherShard}
+use Rattle.reply_frame.specs.declared.replies.Reply.{Reply, Nothing, Stored as StoredAt, Stale as StaleEntry, NotAdded as NoShard, Finalised as Closed, Full as NoRoom, At as StandsAt, PendingAsk, FinalisedAt as FrozenAt, Missing as NotThere, Found as FoundAt, Trimmed as GivenUp, PendingRead, Elsewhere as OtherShard}
 use Rattle.history_frame.specs.declared.events.Sent.{Sent}
 use Rattle.history_frame.specs.declared.inputs.Call.{Call}
 use Rattle.history_frame.specs.declared.inputs.Call.TheVariants.{Submit, Ask, Read}

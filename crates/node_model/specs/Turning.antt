@@ -1,6 +1,6 @@
 -- The ways in which an event can turn out at a node, whatever its role.
 use Rattle.std.specs.Prelude.{◌≡◌, Option, Some}
-use Rattle.command_frame.specs.declared.replies.Reply.{Down, Halted as HaltedReply}
+use Rattle.reply_frame.specs.declared.replies.Reply.{Down, Halted as HaltedReply}
 use Rattle.history_frame.specs.declared.inputs.Input.{Input}
 use Rattle.history_frame.specs.declared.inputs.Mark.{Mark}
 use Rattle.history_frame.specs.declared.inputs.Mark.TheVariants.{Done, Halted, OpenedWithout, OpenedWith}

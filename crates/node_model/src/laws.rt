@@ -2,7 +2,7 @@
 //! its contract is the example.
 
 ghost use Rattle.std.specs.Prelude.{◌≡◌, ℕ, List, [], ◌∷◌, ◌==◌, if◌then◌else◌, Some, None};
-ghost use Rattle.command_frame.specs.declared.replies.Reply.{Down, Nothing};
+ghost use Rattle.reply_frame.specs.declared.replies.Reply.{Down, Nothing};
 ghost use Rattle.history_frame.specs.declared.inputs.Call.TheVariants.{Request};
 ghost use Rattle.history_frame.specs.declared.inputs.Input.TheVariants.{Call as ACall, Deliver, Lead, Restart, Tick};
 ghost use Rattle.history_frame.specs.declared.inputs.Mark.TheVariants.{Done, Halted, OpenedWith, OpenedWithout};

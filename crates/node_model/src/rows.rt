@@ -3,7 +3,7 @@
 
 ghost use Rattle.std.specs.Prelude.{◌≡◌, ℕ, List, [], ◌∷◌, ◌&&◌, Option, Some, None, is_some};
 ghost use Rattle.aggregator.specs.Hearing.{Hearing, after_note, fresh as nothing_heard};
-ghost use Rattle.command_frame.specs.declared.replies.Reply.{Down, Halted as HaltedReply, Nothing, Stored};
+ghost use Rattle.reply_frame.specs.declared.replies.Reply.{Down, Halted as HaltedReply, Nothing, Stored};
 ghost use Rattle.history_frame.specs.declared.inputs.Call.TheVariants.{Submit};
 ghost use Rattle.history_frame.specs.declared.inputs.Input.{Input};
 ghost use Rattle.history_frame.specs.declared.inputs.Input.TheVariants.{Call as ACall, Restart, Stop, Tick};

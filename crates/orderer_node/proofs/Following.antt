@@ -5,7 +5,7 @@ use Rattle.std.proofs.lemmas.Bool.{cond_both}
 use Rattle.std.proofs.lemmas.Bool.Decides.{nat_tests}
 use Rattle.std.proofs.lemmas.List.{append-nil, map-append}
 use borrow.Author.Tests.{ltb-true}
-use Rattle.command_frame.specs.declared.replies.Reply.{Nothing}
+use Rattle.reply_frame.specs.declared.replies.Reply.{Nothing}
 use Rattle.event_letters.specs.Letters.{EventLetters, message_length}
 use Rattle.history_frame.specs.declared.events.Sent.{Sent}
 use Rattle.history_frame.specs.declared.inputs.Mark.TheVariants.{Done, Halted}

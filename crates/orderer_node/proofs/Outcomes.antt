@@ -2,7 +2,7 @@
 use Rattle.std.proofs.Common.{◌≡◌, ◌≢◌, ℕ, zero, suc, ◌%◌, ◌<◌, Bool, true, false, cond, List, [], ◌∷◌, ◌++◌, map, length, replicate, Option, Some, None, is_some, refl, ap, sym, subst, ◌∙◌, arith}
 use Rattle.std.proofs.lemmas.Bool.{ne_eqb}
 use Rattle.std.proofs.lemmas.List.{append-nil}
-use Rattle.command_frame.specs.declared.replies.Reply.{Reply, Nothing, Down as DownReply, Halted as HaltedReply}
+use Rattle.reply_frame.specs.declared.replies.Reply.{Reply, Nothing, Down as DownReply, Halted as HaltedReply}
 use Rattle.event_letters.specs.Letters.{EventLetters, HasSpace, message_length}
 use Rattle.history_frame.specs.declared.events.Sent.{Sent}
 use Rattle.history_frame.specs.declared.inputs.Call.{Call}

@@ -1,5 +1,5 @@
 -- The replies of an orderer.
-use Rattle.command_frame.specs.declared.replies.Reply.{Reply, Nothing, Down, Halted, NotLeading, NoSuchShard, Taken, Settled, PendingWish}
+use Rattle.reply_frame.specs.declared.replies.Reply.{Reply, Nothing, Down, Halted, NotLeading, NoSuchShard, Taken, Settled, PendingWish}
 
 -- an answer that an orderer gives
 abbrev pub IsOwn : Reply → Type 0

@@ -24,7 +24,6 @@ ghost use Rattle.orderer_node.specs.Ordering.{IsCaused, IsReopened, IsFlight, Is
 use crate::memory::OrdererMemory;
 use crate::node::restart::sleep;
 use crate::node::rows::letters_of;
-use command_frame::Reply;
 use cut_chain::Places;
 use disk_base::Plan;
 use event_letters::EventLetters;
@@ -32,6 +31,7 @@ use history_frame::{Happened, Input, Mark};
 use log_base::{Config, Memory, Outbox, Position};
 use message_frame::Vote;
 use paxos_acceptor::{Acceptor, BadList};
+use reply_frame::Reply;
 use segment_journal::Journal;
 use std::alloc::Global;
 use std::marker::Model;

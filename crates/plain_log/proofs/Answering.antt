@@ -23,7 +23,7 @@ use Rattle.log_model.proofs.Appending.{end-chain_of}
 use Rattle.log_model.proofs.Spelled.{spelled_where_covered, position_is_index, position_stays, one_position}
 use Rattle.log_model.proofs.States.{state_of_added, state_of_not_added}
 use Rattle.command_frame.specs.declared.items.Item.TheVariants.{Append}
-use Rattle.command_frame.specs.declared.replies.Reply.{Found, At}
+use Rattle.reply_frame.specs.declared.replies.Reply.{Found, At}
 use Rattle.command_frame.specs.Items.{IsItem}
 use Rattle.plain_log.specs.Log.{LogState, after, drawn, entries_of, knows, cut_of, next_entry, read_in, reply_to, stored}
 use Rattle.plain_log.proofs.Lists.{found_state, list_within, within_where_some}

@@ -4,7 +4,7 @@ use Rattle.std.proofs.lemmas.List.{length-take, length-drop}
 use Rattle.std.proofs.lemmas.Option.{slice_get_within}
 use Rattle.log_base.specs.ClusterShape.{Shape}
 use Rattle.command_frame.specs.declared.items.Item.{Item}
-use Rattle.command_frame.specs.declared.replies.Reply.{Reply, Halted}
+use Rattle.reply_frame.specs.declared.replies.Reply.{Reply, Halted}
 use Rattle.plain_log.specs.Log.{LogState, start, after, log_of, replies_from, reply_to, state_after}
 use Rattle.plain_log.specs.Halting.{replies_down, decided_down, state_before, log_with_halt, IsHaltOf}
 

@@ -5,8 +5,8 @@ use Rattle.log_base.proofs.Wide.{length-be2, length-be4, length-be8}
 use Rattle.log_base.specs.declared.numbers.Position.{Position}
 use Rattle.log_base.specs.declared.numbers.Slot.{Slot}
 use Rattle.record_frame.specs.declared.entries.Entry.{Entry}
-use Rattle.command_frame.specs.declared.replies.Reply.{Found, PendingRead, Settled}
-use Rattle.command_frame.specs.Replies.{HasSpelling, IsShort, entry_bytes}
+use Rattle.reply_frame.specs.declared.replies.Reply.{Found, PendingRead, Settled}
+use Rattle.reply_frame.specs.Replies.{HasSpelling, IsShort, entry_bytes}
 
 pub settled_spelling : (slot : Slot) → HasSpelling (Settled slot)
 settled_spelling slot = (tt, omega (arith, length-be4 slot.0))

@@ -6,7 +6,7 @@ use Rattle.record_frame.specs.declared.entries.Entry.{Entry}
 use Rattle.record_frame.specs.declared.values.Value.TheVariants.{Add as AddValue}
 use Rattle.command_frame.specs.declared.items.Item.{Item}
 use Rattle.command_frame.specs.declared.items.Item.TheVariants.{Append, Read, Add}
-use Rattle.command_frame.specs.declared.replies.Reply.{Reply, Halted, Down, Settled}
+use Rattle.reply_frame.specs.declared.replies.Reply.{Reply, Halted, Down, Settled}
 use Rattle.plain_log.specs.Log.{LogState, start, knows, drawn, next_entry, state_after, log_of}
 
 -- the entry of an item is put on the disk: it is an append to a shard that was added

@@ -13,7 +13,7 @@ use Rattle.log_model.specs.Places.{place_at}
 use Rattle.log_model.specs.Lookup.{segment_index, entry_at_position, position_of_place}
 use Rattle.command_frame.specs.declared.items.Item.{Item}
 use Rattle.command_frame.specs.declared.items.Item.TheVariants.{Append, Read, Add}
-use Rattle.command_frame.specs.declared.replies.Reply.{Reply, Nothing, At, Found, PendingRead, NotAdded, Trimmed, Settled}
+use Rattle.reply_frame.specs.declared.replies.Reply.{Reply, Nothing, At, Found, PendingRead, NotAdded, Trimmed, Settled}
 
 pub record LogState : Type 0 where
   pub values : List Value

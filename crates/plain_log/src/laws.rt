@@ -11,7 +11,7 @@ ghost use Rattle.record_frame.specs.declared.entries.Entry.{Entry};
 ghost use Rattle.log_model.specs.Chain.{chain_of};
 ghost use Rattle.command_frame.specs.declared.items.Item.{Item};
 ghost use Rattle.command_frame.specs.declared.items.Item.TheVariants.{Append, Read, Add};
-ghost use Rattle.command_frame.specs.declared.replies.Reply.{Settled, At, Found, Halted, Down};
+ghost use Rattle.reply_frame.specs.declared.replies.Reply.{Settled, At, Found, Halted, Down};
 ghost use Rattle.command_frame.specs.Items.{IsItem};
 ghost use Rattle.plain_log.specs.Log.{LogState, log_of, start, state_after, replies_from, reply_to, knows, after, next_entry};
 ghost use Rattle.plain_log.specs.Halting.{log_with_halt, IsHaltOf};

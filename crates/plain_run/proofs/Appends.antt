@@ -8,8 +8,8 @@ use Rattle.record_frame.specs.declared.entries.Entry.{Entry}
 use Rattle.record_frame.specs.declared.values.Lengths.{Lengths}
 use Rattle.record_frame.specs.declared.values.Value.{Value}
 use Rattle.record_frame.specs.declared.values.Value.TheVariants.{Cut}
-use Rattle.command_frame.specs.declared.replies.Reply.{Reply, NotAdded, Halted}
-use Rattle.command_frame.specs.Replies.{HasSpelling}
+use Rattle.reply_frame.specs.declared.replies.Reply.{Reply, NotAdded, Halted}
+use Rattle.reply_frame.specs.Replies.{HasSpelling}
 use Rattle.log_base.proofs.Wide.{length-be4, length-be8}
 use Rattle.plain_run.specs.declared.appending.Unstored.{Unstored}
 use Rattle.plain_run.specs.declared.appending.Unstored.TheVariants.{Halted as HaltedPut, Memory as OutOfMemory}

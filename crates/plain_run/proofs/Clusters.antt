@@ -17,9 +17,9 @@ use Rattle.record_frame.specs.declared.values.Value.{Value}
 use Rattle.record_frame.specs.declared.values.Value.TheVariants.{Add as AddValue, Cut}
 use Rattle.record_frame.specs.Entries.{entry_of}
 use Rattle.command_frame.specs.declared.items.Item.TheVariants.{Append, Read, Add}
-use Rattle.command_frame.specs.declared.replies.Reply.{Reply, Halted, Down, Settled, NotAdded}
+use Rattle.reply_frame.specs.declared.replies.Reply.{Reply, Halted, Down, Settled, NotAdded}
 use Rattle.command_frame.specs.Items.{IsItem}
-use Rattle.command_frame.specs.Replies.{IsShort}
+use Rattle.reply_frame.specs.Replies.{IsShort}
 use Rattle.log_model.specs.Lookup.{segment_index, position_of_place}
 use Rattle.log_model.specs.Places.{place_at}
 use Rattle.log_model.proofs.States.{replicate-zero}

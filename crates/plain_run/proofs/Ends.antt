@@ -5,7 +5,7 @@ use Rattle.std.proofs.lemmas.Bool.{cases_eq}
 use Rattle.log_base.specs.ClusterShape.{Shape}
 use Rattle.log_base.specs.Outside.{Rose}
 use Rattle.record_frame.specs.declared.entries.Entry.{Entry}
-use Rattle.command_frame.specs.declared.replies.Reply.{Reply, NotAdded, Halted}
+use Rattle.reply_frame.specs.declared.replies.Reply.{Reply, NotAdded, Halted}
 use Rattle.node_table.specs.Numbering.{storage_node}
 use Rattle.plain_log.specs.Log.{LogState, entries_of}
 use Rattle.shard_replica.specs.Answers.{TellsPut, is_halted}

@@ -11,8 +11,8 @@ use Rattle.log_base.specs.declared.numbers.Place.{Place}
 use Rattle.log_base.specs.declared.numbers.Position.{Position}
 use Rattle.log_base.specs.declared.numbers.Shard.{Shard}
 use Rattle.record_frame.specs.declared.entries.Entry.{Entry}
-use Rattle.command_frame.specs.declared.replies.Reply.{Reply, Found, PendingRead}
-use Rattle.command_frame.specs.Replies.{HasSpelling, IsShort}
+use Rattle.reply_frame.specs.declared.replies.Reply.{Reply, Found, PendingRead}
+use Rattle.reply_frame.specs.Replies.{HasSpelling, IsShort}
 use Rattle.log_model.specs.Chain.{chain_of, covered_of}
 use Rattle.log_model.specs.Lookup.{entry_at_place, entry_at_position, segment_index}
 use Rattle.log_model.specs.Places.{place_at}

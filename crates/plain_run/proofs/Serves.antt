@@ -9,8 +9,8 @@ use Rattle.log_base.specs.Outside.{Rose}
 use Rattle.record_frame.specs.declared.entries.Entry.{Entry}
 use Rattle.command_frame.specs.declared.items.Item.{Item}
 use Rattle.command_frame.specs.declared.items.Item.TheVariants.{Append, Read, Add}
-use Rattle.command_frame.specs.declared.replies.Reply.{Reply, Halted}
-use Rattle.command_frame.specs.Replies.{reply_spelling}
+use Rattle.reply_frame.specs.declared.replies.Reply.{Reply, Halted}
+use Rattle.reply_frame.specs.Replies.{reply_spelling}
 use Rattle.record_frame.specs.declared.values.Value.{Value}
 use Rattle.record_frame.specs.declared.values.Value.TheVariants.{Add as AddValue}
 use Rattle.node_table.specs.Numbering.{storage_node}

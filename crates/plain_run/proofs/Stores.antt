@@ -4,7 +4,7 @@ use Rattle.std.specs.Prelude.{Option, Some, None, IsSome}
 use Rattle.std.proofs.lemmas.Bool.{cases_Bool, cases_eq}
 use Rattle.log_base.specs.ClusterShape.{Shape}
 use Rattle.record_frame.specs.declared.entries.Entry.{Entry}
-use Rattle.command_frame.specs.declared.replies.Reply.{Reply, NotAdded, Halted}
+use Rattle.reply_frame.specs.declared.replies.Reply.{Reply, NotAdded, Halted}
 use Rattle.log_model.specs.Storage.{Member, Knowledge, knowledge_of}
 use Rattle.log_model.specs.Submitting.{Submission, Stored as StoredSo, NotAdded as NotAddedSo, nothing_put, submit}
 use Rattle.node_table.specs.Numbering.{storage_node}

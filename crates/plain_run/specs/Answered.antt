@@ -4,8 +4,8 @@ use Rattle.log_base.specs.ClusterShape.{Shape}
 use Rattle.record_frame.specs.declared.entries.Entry.{Entry}
 use Rattle.command_frame.specs.declared.items.Item.{Item}
 use Rattle.command_frame.specs.declared.items.Item.TheVariants.{Append, Read, Add}
-use Rattle.command_frame.specs.declared.replies.Reply.{Reply}
-use Rattle.command_frame.specs.Replies.{reply_spelling}
+use Rattle.reply_frame.specs.declared.replies.Reply.{Reply}
+use Rattle.reply_frame.specs.Replies.{reply_spelling}
 use Rattle.log_model.specs.Lookup.{segment_index}
 use Rattle.node_table.specs.Numbering.{storage_node}
 use Rattle.plain_log.specs.Halting.{IsHaltOf, failed_entry, lists_with_halt, log_with_halt, values_with_halt}

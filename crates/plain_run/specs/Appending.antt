@@ -8,8 +8,8 @@ use Rattle.log_model.specs.Asking.{Asked, At, Pending, FinalisedAt, Stale, Missi
 use Rattle.log_model.specs.Lookup.{position_of_place}
 use Rattle.log_model.specs.Places.{place_at}
 use Rattle.log_model.specs.Reading.{ReadAnswer, Found as FoundSo, Trimmed as TrimmedSo, Pending as PendingSo, Elsewhere as ElsewhereSo}
-use Rattle.command_frame.specs.declared.replies.Reply.{Reply, NotAdded, PendingAsk, Found, PendingRead, Trimmed, Elsewhere}
-use Rattle.command_frame.specs.declared.replies.Reply.{At as AtReply, FinalisedAt as FinalisedAtReply, Stale as StaleReply, Missing as MissingReply}
+use Rattle.reply_frame.specs.declared.replies.Reply.{Reply, NotAdded, PendingAsk, Found, PendingRead, Trimmed, Elsewhere}
+use Rattle.reply_frame.specs.declared.replies.Reply.{At as AtReply, FinalisedAt as FinalisedAtReply, Stale as StaleReply, Missing as MissingReply}
 use Rattle.log_base.specs.declared.numbers.Position.{Position}
 use Rattle.plain_log.specs.Coherent.{IsCoherentState}
 use Rattle.plain_log.specs.Log.{LogState, entries_of, knows, stored, told_position}

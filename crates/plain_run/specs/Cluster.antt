@@ -6,8 +6,8 @@ use Rattle.log_base.specs.Draws.{number_of_draw}
 use Rattle.record_frame.specs.declared.entries.Entry.{Entry}
 use Rattle.command_frame.specs.declared.items.Item.{Item}
 use Rattle.command_frame.specs.declared.items.Item.TheVariants.{Append, Read, Add}
-use Rattle.command_frame.specs.declared.replies.Reply.{Reply, Halted}
-use Rattle.command_frame.specs.Replies.{IsShort}
+use Rattle.reply_frame.specs.declared.replies.Reply.{Reply, Halted}
+use Rattle.reply_frame.specs.Replies.{IsShort}
 use Rattle.node_table.specs.Numbering.{storage_node}
 use Rattle.plain_log.specs.Log.{LogState, after, reply_to, next_entry}
 use Rattle.plain_log.specs.Coherent.{IsCoherentState}

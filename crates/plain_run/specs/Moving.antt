@@ -12,7 +12,7 @@ use Rattle.cut_chain.specs.Known.{IsFor}
 use Rattle.peer_copy.specs.Copying.{after_note}
 use Rattle.shard_replica.specs.Lists.{HasRoomFor, Medium, after_put, medium_at, segment_at}
 use Rattle.shard_replica.specs.Replica.{ReplicaState, Replicated, IsRunning, entry_size, member_of, own_entries, with_put}
-use Rattle.command_frame.specs.declared.replies.Reply.{Reply, NotAdded, Stale, Finalised, Full, Halted}
+use Rattle.reply_frame.specs.declared.replies.Reply.{Reply, NotAdded, Stale, Finalised, Full, Halted}
 use Rattle.log_model.specs.Lookup.{segment_index}
 use Rattle.plain_log.specs.Coherent.{IsCoherentState}
 use Rattle.plain_log.specs.Log.{LogState, entries_of, knows}

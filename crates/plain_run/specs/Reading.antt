@@ -3,8 +3,8 @@ use Rattle.std.specs.Prelude.{ℕ, ◌<◌, List, Option, Some, None, [], slice_
 use Rattle.std.specs.List.{All}
 use Rattle.log_base.specs.ClusterShape.{Shape}
 use Rattle.log_base.specs.declared.numbers.Shard.{Shard}
-use Rattle.command_frame.specs.declared.replies.Reply.{Reply, Elsewhere}
-use Rattle.command_frame.specs.Replies.{IsShort}
+use Rattle.reply_frame.specs.declared.replies.Reply.{Reply, Elsewhere}
+use Rattle.reply_frame.specs.Replies.{IsShort}
 use Rattle.plain_log.specs.Coherent.{IsCoherentState}
 use Rattle.plain_log.specs.Log.{LogState}
 use Rattle.shard_replica.specs.Replica.{Replicated}

@@ -3,7 +3,7 @@
 ghost use Rattle.std.specs.Prelude.{◌≡◌, ◌≢◌, ℕ, length, IfOk, IfErr, IsErrOf};
 ghost use Rattle.log_base.specs.Shape.{shape};
 ghost use Rattle.record_frame.specs.Entries.{entry_of};
-ghost use Rattle.command_frame.specs.Replies.{HasSpelling};
+ghost use Rattle.reply_frame.specs.Replies.{HasSpelling};
 ghost use Rattle.plain_log.specs.Log.{LogState};
 ghost use Rattle.plain_run.specs.Appending.{IsAppended, IsUnstored, MayAppend};
 ghost use Rattle.plain_run.specs.Broken.{IsLater};

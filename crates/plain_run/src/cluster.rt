@@ -5,7 +5,7 @@ ghost use Rattle.log_base.specs.Draws.{number_of_draw};
 ghost use Rattle.log_base.specs.Shape.{shape};
 ghost use Rattle.command_frame.specs.declared.items.Item.TheVariants.{Append, Read, Add};
 ghost use Rattle.command_frame.specs.Items.{IsItem};
-ghost use Rattle.command_frame.specs.Replies.{HasSpelling};
+ghost use Rattle.reply_frame.specs.Replies.{HasSpelling};
 ghost use Rattle.plain_log.specs.Log.{start};
 ghost use Rattle.plain_run.specs.Broken.{IsLater};
 ghost use Rattle.plain_run.specs.Cluster.{Answers, AreFresh, IsUnanswered};

@@ -2,7 +2,7 @@
 
 ghost use Rattle.std.specs.Prelude.{◌≡◌, ℕ, IfOk};
 ghost use Rattle.log_base.specs.Shape.{shape};
-ghost use Rattle.command_frame.specs.Replies.{HasSpelling};
+ghost use Rattle.reply_frame.specs.Replies.{HasSpelling};
 ghost use Rattle.plain_log.specs.Log.{LogState, read_in};
 ghost use Rattle.plain_run.specs.Reading.{MayRead, elsewhere_of};
 

@@ -3,9 +3,9 @@
 ghost use Rattle.std.specs.Prelude.{◌≡◌, ◌⊎◌, ℕ, ◌≤◌, ◌<◌, List, ◌++◌, Option, length, IfOk, OnOk, OnErr, IsErrOf};
 ghost use Rattle.std.specs.List.{AllByRecursion};
 ghost use Rattle.command_frame.specs.declared.items.Item.{Item};
-ghost use Rattle.command_frame.specs.declared.replies.Reply.{Reply};
+ghost use Rattle.reply_frame.specs.declared.replies.Reply.{Reply};
 ghost use Rattle.command_frame.specs.Items.{IsItem};
-ghost use Rattle.command_frame.specs.Replies.{reply_spelling};
+ghost use Rattle.reply_frame.specs.Replies.{reply_spelling};
 ghost use Rattle.plain_log.specs.Room.{HasRoom};
 ghost use Rattle.plain_run.specs.Answered.{IsAnswered, IsStarted, lane_of, output_with_halt};
 ghost use Rattle.plain_run.specs.Broken.{IsLater};

@@ -1,7 +1,7 @@
 -- What nodes answer: never a stream nor what only a run answers, and an entry that is found is not too long.
 use Rattle.std.proofs.Common.{◌≡◌, Some, sym, subst}
-use Rattle.command_frame.specs.declared.replies.Reply.{Reply, Found as FoundAt, Halted as HaltedReply, Down, Stream'}
-use Rattle.command_frame.specs.Replies.{IsNodeAnswer, IsReply}
+use Rattle.reply_frame.specs.declared.replies.Reply.{Reply, Found as FoundAt, Halted as HaltedReply, Down, Stream'}
+use Rattle.reply_frame.specs.Replies.{IsNodeAnswer, IsReply}
 use Rattle.history_frame.specs.declared.inputs.Input.{Input}
 use Rattle.history_frame.specs.declared.inputs.Input.TheVariants.{Deliver, Call as ACall, Tick, Lead, Stop, Restart}
 use Rattle.history_frame.specs.declared.inputs.Mark.{Mark}

@@ -1,7 +1,7 @@
 -- The next event of a run: its input fits its node, what happened has a spelling, and the history stays legal.
 use Rattle.std.proofs.Common.{◌<◌, ◌≤◌, ℕ, List, [], ◌∷◌, ◌++◌, length, Some, None, sym, subst, arith}
 use Rattle.std.specs.List.{AllByRecursion}
-use Rattle.command_frame.specs.Replies.{IsNodeAnswer}
+use Rattle.reply_frame.specs.Replies.{IsNodeAnswer}
 use Rattle.history_frame.specs.declared.events.Event.{Event}
 use Rattle.history_frame.specs.declared.events.Sent.{Sent}
 use Rattle.history_frame.specs.declared.inputs.Call.TheVariants.{Submit, Ask, Read, Request, Settled}

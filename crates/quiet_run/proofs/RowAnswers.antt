@@ -2,8 +2,8 @@
 use Rattle.std.proofs.Common.{◌≡◌, ◌==◌, ◌^◌, ℕ, Bool, true, false, cond, List, length, Option, Some, None, slice_get, refl}
 use Rattle.std.specs.Prelude.{nat_lt, nat_le}
 use Rattle.std.proofs.lemmas.Bool.{cond_both}
-use Rattle.command_frame.specs.declared.replies.Reply.{Nothing as Silence}
-use Rattle.command_frame.specs.Replies.{IsNodeAnswer, IsShort}
+use Rattle.reply_frame.specs.declared.replies.Reply.{Nothing as Silence}
+use Rattle.reply_frame.specs.Replies.{IsNodeAnswer, IsShort}
 use Rattle.aggregator.specs.Hearing.{Hearing}
 use Rattle.history_frame.specs.declared.inputs.Call.{Call}
 use Rattle.history_frame.specs.declared.inputs.Call.TheVariants.{Submit, Ask, Read, Request, Settled}

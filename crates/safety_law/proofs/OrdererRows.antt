@@ -1,7 +1,7 @@
 -- Each row of an orderer keeps its ballots and slots in range, and those of its letters.
 use Rattle.std.proofs.Common.{◌≡◌, ◌+◌, ◌-◌, ◌%◌, ◌^◌, ◌<◌, ◌≤◌, ℕ, Bool, true, false, cond, ◌==◌, nat_le, nat_lt, List, [], ◌∷◌, ◌++◌, length, Option, Some, None, refl, arith, length-append, ltb-true}
 use Rattle.std.proofs.lemmas.Bool.{cond_both, eqb-true, leb-false}
-use Rattle.command_frame.specs.declared.replies.Reply.{NoSuchShard, Nothing as Silence, Taken as TakenWish}
+use Rattle.reply_frame.specs.declared.replies.Reply.{NoSuchShard, Nothing as Silence, Taken as TakenWish}
 use Rattle.history_frame.specs.declared.events.Sent.{Sent}
 use Rattle.history_frame.specs.declared.inputs.Call.{Call}
 use Rattle.history_frame.specs.declared.inputs.Call.TheVariants.{Ask, Read, Request, Settled, Submit}

@@ -1,6 +1,6 @@
 -- Each outcome of an event at an orderer: what stands after it, and its letters.
 use Rattle.std.proofs.Common.{◌≡◌, ◌<◌, ℕ, List, [], ◌∷◌, ◌++◌, Some, None, sym, subst, ⊎_elim, arith}
-use Rattle.command_frame.specs.declared.replies.Reply.{Reply, Nothing as Silence, Halted as HaltedReply}
+use Rattle.reply_frame.specs.declared.replies.Reply.{Reply, Nothing as Silence, Halted as HaltedReply}
 use Rattle.history_frame.specs.declared.inputs.Input.{Input}
 use Rattle.history_frame.specs.declared.inputs.Mark.{Mark}
 use Rattle.log_base.specs.ClusterShape.{InRange, Shape}

@@ -2,7 +2,7 @@
 use Rattle.std.proofs.Common.{◌≡◌, ◌<◌, ◌⊎◌, ℕ, zero, suc, List, [], ◌∷◌, ◌++◌, length, Option, Some, None, refl, sym, ap, subst, inl, inr, ⊎_elim, arith, ◌∙◌}
 use Rattle.std.specs.Prelude.{slice_set}
 use Rattle.std.proofs.lemmas.List.{length-set}
-use Rattle.command_frame.specs.declared.replies.Reply.{Reply, Down, Nothing as Silence, Halted as HaltedReply}
+use Rattle.reply_frame.specs.declared.replies.Reply.{Reply, Down, Nothing as Silence, Halted as HaltedReply}
 use Rattle.history_frame.specs.declared.inputs.Input.{Input}
 use Rattle.history_frame.specs.declared.inputs.Mark.{Mark}
 use Rattle.log_base.specs.ClusterShape.{InRange, Shape}

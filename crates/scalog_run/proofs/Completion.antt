@@ -8,8 +8,8 @@ use Rattle.log_base.specs.ClusterShape.{Shape}
 use Rattle.log_base.specs.Outside.{Rose}
 use Rattle.segment_journal.specs.File.{recovered}
 use Rattle.command_frame.specs.declared.items.Item.{Item}
-use Rattle.command_frame.specs.declared.answers.ItemFault.{ItemFault}
-use Rattle.command_frame.specs.declared.answers.ItemFault.TheVariants.{Bad, Read, Many, Memory}
+use Rattle.reply_frame.specs.declared.faults.ItemFault.{ItemFault}
+use Rattle.reply_frame.specs.declared.faults.ItemFault.TheVariants.{Bad, Read, Many, Memory}
 use Rattle.plain_log.specs.Halting.{values_with_halt}
 use Rattle.plain_run.specs.Answered.{output_with_halt}
 use Rattle.scalog_run.specs.declared.answering.Unanswered.{Unanswered}

@@ -5,8 +5,8 @@ use Rattle.std.specs.List.{flat_map}
 use Rattle.log_base.specs.ClusterShape.{Shape}
 use Rattle.log_base.specs.Outside.{Rose}
 use Rattle.command_frame.specs.declared.items.Item.{Item}
-use Rattle.command_frame.specs.declared.answers.ItemFault.{ItemFault}
-use Rattle.command_frame.specs.declared.answers.ItemFault.TheVariants.{Bad, Read as ReadFault, Many, Memory}
+use Rattle.reply_frame.specs.declared.faults.ItemFault.{ItemFault}
+use Rattle.reply_frame.specs.declared.faults.ItemFault.TheVariants.{Bad, Read as ReadFault, Many, Memory}
 use Rattle.command_frame.specs.Items.{item_spelling}
 use Rattle.plain_log.specs.Halting.{values_with_halt}
 use Rattle.plain_log.specs.Log.{log_of}

@@ -4,8 +4,8 @@ use Rattle.std.specs.Io.KnownBytes.{Consumes, IsAtEnd}
 use Rattle.std.specs.List.{flat_map}
 use Rattle.log_base.specs.ClusterShape.{Shape}
 use Rattle.command_frame.specs.declared.items.Item.{Item}
-use Rattle.command_frame.specs.declared.answers.ItemFault.{ItemFault}
-use Rattle.command_frame.specs.declared.answers.ItemFault.TheVariants.{Bad, Read, Many, Memory}
+use Rattle.reply_frame.specs.declared.faults.ItemFault.{ItemFault}
+use Rattle.reply_frame.specs.declared.faults.ItemFault.TheVariants.{Bad, Read, Many, Memory}
 use Rattle.command_frame.specs.Items.{Counts, counted, passed_limit, item_spelling, IsItem}
 use Rattle.command_frame.specs.Reader.{NoItem}
 use Rattle.scalog_run.specs.declared.reading.Step.{Step}

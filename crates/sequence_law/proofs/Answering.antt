@@ -1,7 +1,7 @@
 -- What a call that was answered says of the node that answered it.
 use Rattle.std.proofs.Common.{◌≡◌, ◌<◌, ℕ, true, List, length, Option, Some, None, refl, sym, ap, subst, ◌∙◌}
 use Rattle.std.proofs.lemmas.Bool.{cond_both}
-use Rattle.command_frame.specs.declared.replies.Reply.{Reply, Down, Halted as HaltedReply, Nothing}
+use Rattle.reply_frame.specs.declared.replies.Reply.{Reply, Down, Halted as HaltedReply, Nothing}
 use Rattle.history_frame.specs.declared.events.Event.{Event}
 use Rattle.history_frame.specs.declared.inputs.Call.{Call}
 use Rattle.history_frame.specs.declared.inputs.Call.TheVariants.{Submit, Ask, Read, Request, Settled}

@@ -2,7 +2,7 @@
 use Rattle.std.proofs.Common.{◌≡◌, ◌<◌, ◌≤◌, ◌*◌, ◌^◌, ℕ, List, ◌∷◌, ◌++◌, length, slice_get, get_or, Some, None, refl, sym, ap, subst, ⊎_elim, arith, append_assoc, ◌∙◌}
 use Rattle.std.proofs.lemmas.Bool.{cases_lt}
 use Rattle.std.proofs.lemmas.Option.{none-some, same_Some, slice_get-get_or, slice_get_within}
-use Rattle.command_frame.specs.declared.replies.Reply.{At as StandsAt, Finalised as Closed, FinalisedAt as FrozenAt}
+use Rattle.reply_frame.specs.declared.replies.Reply.{At as StandsAt, Finalised as Closed, FinalisedAt as FrozenAt}
 use Rattle.history_frame.specs.declared.events.Event.{Event}
 use Rattle.history_frame.specs.declared.inputs.Call.{Call}
 use Rattle.history_frame.specs.declared.inputs.Call.TheVariants.{Submit, Ask, Read, Request, Settled}

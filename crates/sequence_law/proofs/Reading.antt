@@ -2,7 +2,7 @@
 use Rattle.std.proofs.Common.{◌≡◌, ◌<◌, ◌≤◌, ◌+◌, ℕ, zero, suc, Bool, true, false, cond, ◌&&◌, nat_le, List, [], ◌∷◌, length, slice_get, Option, Some, None, refl, sym, ap, subst, arith, le-leb, ◌∙◌}
 use Rattle.std.proofs.lemmas.Bool.{cond-true}
 use Rattle.std.proofs.lemmas.Option.{none-some, same_Some}
-use Rattle.command_frame.specs.declared.replies.Reply.{Reply, Found as FoundAt, PendingAsk, PendingRead, PendingWish}
+use Rattle.reply_frame.specs.declared.replies.Reply.{Reply, Found as FoundAt, PendingAsk, PendingRead, PendingWish}
 use Rattle.history_frame.specs.declared.events.Event.{Event}
 use Rattle.history_frame.specs.declared.inputs.Call.{Call}
 use Rattle.history_frame.specs.declared.inputs.Call.TheVariants.{Submit, Ask, Read, Request, Settled}

@@ -1,7 +1,7 @@
 -- Events and replies: which events come before one, and what the reply to a call is.
 use Rattle.std.proofs.Common.{◌≡◌, ◌≤◌, ℕ, zero, suc, List, [], ◌∷◌, ◌++◌, length, slice_get, Some, None, refl, sym, ap, subst, inl, inr, arith, ◌∙◌}
 use Rattle.std.proofs.lemmas.Option.{same_Some}
-use Rattle.command_frame.specs.declared.replies.Reply.{Reply, Finalised as Closed}
+use Rattle.reply_frame.specs.declared.replies.Reply.{Reply, Finalised as Closed}
 use Rattle.history_frame.specs.declared.events.Event.{Event}
 use Rattle.history_frame.specs.declared.inputs.Call.TheVariants.{Submit, Ask, Read, Request, Settled}
 use Rattle.history_frame.specs.declared.inputs.Input.{Input}

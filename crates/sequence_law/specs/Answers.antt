@@ -1,6 +1,6 @@
 -- What is so where a client was answered.
 use Rattle.std.specs.Prelude.{◌≡◌, ℕ, ◌<◌, ◌≤◌, List, ◌∷◌, ◌++◌, length, Some, slice_get}
-use Rattle.command_frame.specs.declared.replies.Reply.{At, Finalised, FinalisedAt, Found, PendingAsk, PendingRead, PendingWish}
+use Rattle.reply_frame.specs.declared.replies.Reply.{At, Finalised, FinalisedAt, Found, PendingAsk, PendingRead, PendingWish}
 use Rattle.history_frame.specs.declared.events.Event.{Event}
 use Rattle.history_frame.specs.declared.inputs.Call.TheVariants.{Ask, Read, Settled}
 use Rattle.history_frame.specs.declared.inputs.Input.{Input}

@@ -1,7 +1,7 @@
 -- The history of one append goes on. A second record is stored, and its shard is finalised before a cut covers it. Then a
 -- client asks where each of them stands, submits a third one, and reads the first.
 use Rattle.std.specs.Prelude.{◌+◌, ◌^◌, List, [], ◌∷◌, ◌++◌}
-use Rattle.command_frame.specs.declared.replies.Reply.{At, Finalised as Closed, FinalisedAt, Found, Stored, Taken}
+use Rattle.reply_frame.specs.declared.replies.Reply.{At, Finalised as Closed, FinalisedAt, Found, Stored, Taken}
 use Rattle.history_frame.specs.declared.events.Event.{Event}
 use Rattle.history_frame.specs.declared.inputs.Call.TheVariants.{Ask, Read, Request, Submit}
 use Rattle.record_frame.specs.declared.entries.Entry.{Entry}

@@ -1,7 +1,7 @@
 //! An example of a safe history. The function does nothing: its contract is the example.
 
 ghost use Rattle.std.specs.Prelude.{◌≡◌, ℕ, ◌+◌, ◌^◌, List, [], ◌∷◌, Some};
-ghost use Rattle.command_frame.specs.declared.replies.Reply.{Found};
+ghost use Rattle.reply_frame.specs.declared.replies.Reply.{Found};
 ghost use Rattle.history_frame.specs.declared.events.Event.{Event};
 ghost use Rattle.node_model.specs.Durable.{IsFounded};
 ghost use Rattle.node_model.specs.Legal.{IsLegal};

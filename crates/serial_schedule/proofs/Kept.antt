@@ -9,7 +9,7 @@ use Rattle.log_base.specs.declared.numbers.Position.{Position}
 use Rattle.log_base.specs.declared.numbers.Replica.{Replica}
 use Rattle.log_base.specs.declared.numbers.Shard.{Shard}
 use Rattle.record_frame.specs.declared.values.Value.{Value}
-use Rattle.command_frame.specs.declared.replies.Reply.{Reply, Stored, Down, Elsewhere, Taken, NotLeading, NoLeader}
+use Rattle.reply_frame.specs.declared.replies.Reply.{Reply, Stored, Down, Elsewhere, Taken, NotLeading, NoLeader}
 use Rattle.history_frame.specs.declared.events.Sent.{Sent}
 use Rattle.serial_schedule.specs.declared.courses.Course.{Course}
 use Rattle.serial_schedule.specs.declared.courses.Course.TheVariants.{Replies, GoesOn}

@@ -16,7 +16,7 @@ use Rattle.record_frame.specs.Entries.{IsEntry, entry_of}
 use Rattle.command_frame.specs.declared.items.Item.{Item}
 use Rattle.command_frame.specs.declared.items.Item.TheVariants.{Append, Read, Add}
 use Rattle.command_frame.specs.Items.{IsItem}
-use Rattle.command_frame.specs.declared.replies.Reply.{Reply, Stored, Down, Elsewhere, Taken, NotLeading, NoLeader}
+use Rattle.reply_frame.specs.declared.replies.Reply.{Reply, Stored, Down, Elsewhere, Taken, NotLeading, NoLeader}
 use Rattle.history_frame.specs.declared.events.Event.{Event}
 use Rattle.history_frame.specs.declared.events.Sent.{Sent}
 use Rattle.node_table.specs.Numbering.{nodes_of, orderer_node, storage_node}

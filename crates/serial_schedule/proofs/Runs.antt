@@ -1,6 +1,6 @@
 -- Worked runs, by computation.
 use Rattle.std.proofs.Common.{◌≡◌, ◌++◌, [], ◌∷◌, refl}
-use Rattle.command_frame.specs.declared.replies.Reply.{Settled}
+use Rattle.reply_frame.specs.declared.replies.Reply.{Settled}
 use Rattle.serial_schedule.specs.Driven.{IsDriven, IsFollowed, replies_of}
 use Rattle.serial_schedule.specs.Worked.{addition, confirmed, decided, opened, opening_turns, silent, smallest, two_by_two}
 

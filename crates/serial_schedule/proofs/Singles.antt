@@ -1,7 +1,7 @@
 -- No node answers with a stream.
 use Rattle.std.proofs.Common.{◌≡◌, ℕ, Bool, true, false, cond, List, Option, Some, None, refl, rules, sym, subst}
 use Rattle.aggregator.specs.Hearing.{Hearing}
-use Rattle.command_frame.specs.declared.replies.Reply.{Reply, Down, Halted as HaltedReply}
+use Rattle.reply_frame.specs.declared.replies.Reply.{Reply, Down, Halted as HaltedReply}
 use Rattle.history_frame.specs.declared.events.Happened.{Happened}
 use Rattle.history_frame.specs.declared.inputs.Call.{Call}
 use Rattle.history_frame.specs.declared.inputs.Call.TheVariants.{Submit, Ask, Read, Request, Settled}

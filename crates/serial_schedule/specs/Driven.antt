@@ -2,7 +2,7 @@
 use Rattle.std.specs.Prelude.{◌≡◌, ℕ, List, [], ◌∷◌, Option, Some, None}
 use Rattle.log_base.specs.ClusterShape.{Shape}
 use Rattle.command_frame.specs.declared.items.Item.{Item}
-use Rattle.command_frame.specs.declared.replies.Reply.{Reply}
+use Rattle.reply_frame.specs.declared.replies.Reply.{Reply}
 use Rattle.history_frame.specs.declared.events.Event.{Event}
 use Rattle.serial_schedule.specs.declared.turns.Turn.{Turn}
 use Rattle.serial_schedule.specs.Scheduling.{Scheduled, at_first, given, next_turn, noted, ready}

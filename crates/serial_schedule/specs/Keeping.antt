@@ -5,7 +5,7 @@ use Rattle.log_base.specs.ClusterShape.{Shape}
 use Rattle.record_frame.specs.declared.refusals.Refusal.{Refusal}
 use Rattle.command_frame.specs.declared.items.Item.{Item}
 use Rattle.command_frame.specs.declared.items.Item.TheVariants.{Append, Read, Add}
-use Rattle.command_frame.specs.declared.replies.Reply.{Reply, Stream'}
+use Rattle.reply_frame.specs.declared.replies.Reply.{Reply, Stream'}
 use Rattle.command_frame.specs.Items.{IsItem}
 use Rattle.message_frame.specs.declared.messages.Message.{Message}
 use Rattle.message_frame.specs.declared.messages.Message.TheVariants.{Want}

@@ -1,7 +1,7 @@
 -- What follows from an answer, part by part.
 use Rattle.std.specs.Prelude.{List, [], ◌∷◌, ◌++◌, Option, Some, None}
 use Rattle.log_base.specs.ClusterShape.{Shape}
-use Rattle.command_frame.specs.declared.replies.Reply.{Reply}
+use Rattle.reply_frame.specs.declared.replies.Reply.{Reply}
 use Rattle.serial_schedule.specs.declared.courses.Course.{Course}
 use Rattle.serial_schedule.specs.declared.courses.Course.TheVariants.{Replies, GoesOn}
 use Rattle.serial_schedule.specs.declared.duties.Awaited.{Awaited}

@@ -7,7 +7,7 @@ use Rattle.record_frame.specs.declared.values.Value.{Value}
 use Rattle.record_frame.specs.declared.values.Value.TheVariants.{Add as AddValue}
 use Rattle.command_frame.specs.declared.items.Item.{Item}
 use Rattle.command_frame.specs.declared.items.Item.TheVariants.{Add}
-use Rattle.command_frame.specs.declared.replies.Reply.{Reply, Nothing, Taken, Settled}
+use Rattle.reply_frame.specs.declared.replies.Reply.{Reply, Nothing, Taken, Settled}
 use Rattle.message_frame.specs.declared.messages.Message.{Message}
 use Rattle.message_frame.specs.declared.messages.Message.TheVariants.{Report, Least, Prepare, Promised, Accept, Accepted, Decide, Want}
 use Rattle.history_frame.specs.declared.events.Event.{Event}

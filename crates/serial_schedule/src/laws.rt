@@ -4,7 +4,7 @@ ghost use Rattle.std.specs.Prelude.{◌≡◌, ℕ, ◌≤◌, List, [], ◌∷�
 ghost use Rattle.std.specs.List.{AllByRecursion};
 ghost use Rattle.log_base.specs.ClusterShape.{Shape};
 ghost use Rattle.command_frame.specs.declared.items.Item.{Item};
-ghost use Rattle.command_frame.specs.declared.replies.Reply.{Settled};
+ghost use Rattle.reply_frame.specs.declared.replies.Reply.{Settled};
 ghost use Rattle.history_frame.specs.declared.events.Event.{Event};
 ghost use Rattle.history_frame.specs.declared.events.Happened.{Happened};
 ghost use Rattle.node_model.specs.Histories.{IsDelivered, IsSent};

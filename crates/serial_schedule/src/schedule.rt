@@ -41,7 +41,7 @@ pub struct Schedule<'a> {
 impl<'a> Model for Schedule<'a> {
     ghost use Rattle.log_base.specs.Shape.{shape};
     ghost use Rattle.std.specs.Coded.{codes};
-    ghost use Rattle.command_frame.specs.contracts.replies.Reply as reply;
+    ghost use Rattle.reply_frame.specs.contracts.replies.Reply as reply;
     ghost use Rattle.serial_schedule.specs.Keeping.{IsKept};
     ghost use Rattle.serial_schedule.specs.Scheduling.{Scheduled};
 

@@ -1,7 +1,7 @@
 -- The rows of the calls, by what the replica answers.
 use Rattle.std.proofs.Common.{◌≡◌, ℕ, ◌<◌, ◌≤◌, false, List, [], ◌++◌, length, refl, sym, ap, ◌∙◌, subst, arith, length-append}
-use Rattle.command_frame.specs.declared.replies.Reply.{Reply}
-use Rattle.command_frame.specs.Replies.{entry_bytes, reply_bytes}
+use Rattle.reply_frame.specs.declared.replies.Reply.{Reply}
+use Rattle.reply_frame.specs.Replies.{entry_bytes, reply_bytes}
 use Rattle.history_frame.specs.declared.events.Sent.{Sent}
 use Rattle.history_frame.specs.declared.inputs.Call.TheVariants.{Ask, Read}
 use Rattle.history_frame.specs.declared.inputs.Input.TheVariants.{Call as ACall}

@@ -1,6 +1,6 @@
 -- The rows of the messages that put nothing.
 use Rattle.std.proofs.Common.{◌≡◌, ℕ, [], Some, refl, ap, ◌∙◌}
-use Rattle.command_frame.specs.declared.replies.Reply.{Nothing}
+use Rattle.reply_frame.specs.declared.replies.Reply.{Nothing}
 use Rattle.history_frame.specs.declared.inputs.Input.TheVariants.{Deliver}
 use Rattle.history_frame.specs.declared.inputs.Mark.TheVariants.{Done}
 use Rattle.log_base.specs.declared.numbers.Slot.{Slot}

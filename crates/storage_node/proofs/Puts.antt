@@ -3,7 +3,7 @@ use Rattle.std.proofs.Common.{◌≡◌, ◌≢◌, ℕ, ◌<◌, Bool, true, fa
 use Rattle.std.specs.Prelude.{IsSome, IfSome, nat_le}
 use Rattle.std.specs.List.{AllByRecursion}
 use Rattle.std.proofs.lemmas.Bool.{eqb-false}
-use Rattle.command_frame.specs.declared.replies.Reply.{Halted as DiskFailed}
+use Rattle.reply_frame.specs.declared.replies.Reply.{Halted as DiskFailed}
 use Rattle.history_frame.specs.declared.events.Sent.{Sent}
 use Rattle.history_frame.specs.declared.inputs.Call.TheVariants.{Submit}
 use Rattle.history_frame.specs.declared.inputs.Input.{Input}

@@ -1,6 +1,6 @@
 -- An event at a running node that follows a row, done or halted.
 use Rattle.std.proofs.Common.{◌≡◌, List, [], Option, Some, sym, ap, ◌∙◌, subst}
-use Rattle.command_frame.specs.declared.replies.Reply.{Halted as DiskFailed}
+use Rattle.reply_frame.specs.declared.replies.Reply.{Halted as DiskFailed}
 use Rattle.history_frame.specs.declared.inputs.Input.{Input}
 use Rattle.history_frame.specs.declared.inputs.Input.TheVariants.{Deliver, Call as ACall, Tick, Lead, Stop, Restart}
 use Rattle.history_frame.specs.declared.inputs.Mark.{Mark}

@@ -1,7 +1,7 @@
 -- An event at a node that is down, and inputs that are not for a storage node.
 use Rattle.std.proofs.Common.{◌≡◌, ◌≢◌, ◌≤◌, Bool, true, cond, List, [], length, Option, Some, None, refl, sym, ap, ◌∙◌, subst, arith}
-use Rattle.command_frame.specs.declared.replies.Reply.{Reply, Down as IsDown}
-use Rattle.command_frame.specs.Replies.{reply_bytes}
+use Rattle.reply_frame.specs.declared.replies.Reply.{Reply, Down as IsDown}
+use Rattle.reply_frame.specs.Replies.{reply_bytes}
 use Rattle.history_frame.specs.declared.events.Sent.{Sent}
 use Rattle.history_frame.specs.declared.inputs.Input.{Input}
 use Rattle.history_frame.specs.declared.inputs.Input.TheVariants.{Deliver, Call as ACall, Tick, Lead, Stop, Restart}

@@ -1,7 +1,7 @@
 -- A node that stops, and one that starts or stays down.
 use Rattle.std.proofs.Common.{◌≡◌, ◌≢◌, ℕ, ◌+◌, Bool, true, false, cond, List, [], Option, Some, None, refl, sym, ap, ◌∙◌, subst, arith}
 use Rattle.std.specs.List.{AllByRecursion, list_any}
-use Rattle.command_frame.specs.declared.replies.Reply.{Reply, Nothing}
+use Rattle.reply_frame.specs.declared.replies.Reply.{Reply, Nothing}
 use Rattle.history_frame.specs.declared.events.Sent.{Sent}
 use Rattle.history_frame.specs.declared.inputs.Input.{Input}
 use Rattle.history_frame.specs.declared.inputs.Input.TheVariants.{Stop, Restart}

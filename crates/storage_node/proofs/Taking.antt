@@ -4,7 +4,7 @@ use Rattle.std.specs.List.{AllByRecursion}
 use Rattle.std.specs.Prelude.{nat_lt}
 use Rattle.std.proofs.lemmas.Bool.{cases_Bool, cond-false, eqb-true}
 use Rattle.std.proofs.lemmas.List.{get_or-set_same, length-set}
-use Rattle.command_frame.specs.declared.replies.Reply.{Reply, Nothing}
+use Rattle.reply_frame.specs.declared.replies.Reply.{Reply, Nothing}
 use Rattle.history_frame.specs.declared.events.Sent.{Sent}
 use Rattle.history_frame.specs.declared.inputs.Input.TheVariants.{Deliver}
 use Rattle.history_frame.specs.declared.inputs.Mark.TheVariants.{Halted}

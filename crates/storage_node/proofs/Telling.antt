@@ -3,8 +3,8 @@ use Rattle.std.proofs.Common.{◌≡◌, ℕ, zero, suc, ◌+◌, ◌-◌, ◌*�
 use Rattle.std.specs.Prelude.{max, min, nat_lt, slice_get, slice_index}
 use Rattle.std.specs.List.{AllByRecursion}
 use Rattle.std.proofs.lemmas.List.{length-map, length-replicate}
-use Rattle.command_frame.specs.declared.replies.Reply.{Reply, Nothing}
-use Rattle.command_frame.specs.Replies.{reply_bytes}
+use Rattle.reply_frame.specs.declared.replies.Reply.{Reply, Nothing}
+use Rattle.reply_frame.specs.Replies.{reply_bytes}
 use Rattle.history_frame.specs.declared.events.Sent.{Sent}
 use Rattle.history_frame.specs.declared.inputs.Input.TheVariants.{Deliver, Tick}
 use Rattle.history_frame.specs.declared.inputs.Mark.TheVariants.{Done}

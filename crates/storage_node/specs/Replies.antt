@@ -1,6 +1,6 @@
 -- The replies that tell the answers of a replica.
 use Rattle.std.specs.Prelude.{ℕ, ◌≤◌, length}
-use Rattle.command_frame.specs.declared.replies.Reply.{Reply, Stored as StoredAt, Stale as StaleEntry, NotAdded as NoShard, Finalised as Closed, Full as NoRoom, Halted as DiskFailed, At as StandsAt, PendingAsk, FinalisedAt as FrozenAt, Missing as NotThere, Found as FoundAt, Trimmed as GivenUp, PendingRead, Elsewhere as OtherShard}
+use Rattle.reply_frame.specs.declared.replies.Reply.{Reply, Stored as StoredAt, Stale as StaleEntry, NotAdded as NoShard, Finalised as Closed, Full as NoRoom, Halted as DiskFailed, At as StandsAt, PendingAsk, FinalisedAt as FrozenAt, Missing as NotThere, Found as FoundAt, Trimmed as GivenUp, PendingRead, Elsewhere as OtherShard}
 use Rattle.log_base.specs.declared.numbers.Position.{Position}
 use Rattle.record_frame.specs.Entries.{entry_of}
 use Rattle.shard_replica.specs.declared.answers.Asked.{Asked}

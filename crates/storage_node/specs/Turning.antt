@@ -1,8 +1,8 @@
 -- How an event turns out at a storage node.
 use Rattle.std.specs.Prelude.{◌≡◌, ◌≤◌, length, List, Bool, if◌then◌else◌, IfSome, Option, Some, None}
 use Rattle.std.specs.List.{AllByRecursion}
-use Rattle.command_frame.specs.declared.replies.Reply.{Reply, Nothing}
-use Rattle.command_frame.specs.Replies.{reply_bytes}
+use Rattle.reply_frame.specs.declared.replies.Reply.{Reply, Nothing}
+use Rattle.reply_frame.specs.Replies.{reply_bytes}
 use Rattle.history_frame.specs.declared.events.Sent.{Sent}
 use Rattle.history_frame.specs.declared.inputs.Input.{Input}
 use Rattle.history_frame.specs.declared.inputs.Mark.{Mark}

@@ -3,9 +3,9 @@
 ghost use Rattle.std.specs.Prelude.{◌≡◌, []};
 ghost use Rattle.history_frame.specs.declared.inputs.Mark.TheVariants.{Done};
 
-use command_frame::Reply;
 use history_frame::{Mark, Sent};
 use log_base::List;
+use reply_frame::Reply;
 use std::alloc::Global;
 
 /// How an event turned out, but for its input.

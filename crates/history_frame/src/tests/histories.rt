@@ -1,8 +1,8 @@
 //! Histories as they are read, frame by frame, and what is no history.
 
 use crate::{HistoryReader, Piece};
-use command_frame::ItemFault;
 use log_base::MemorySource;
+use reply_frame::ItemFault;
 use std::alloc::Global;
 use std::test::Fail;
 

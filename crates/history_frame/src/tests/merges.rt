@@ -7,8 +7,8 @@ ghost use Rattle.history_frame.specs.declared.events.Happened.{Happened};
 ghost use Rattle.history_frame.specs.Merging.{IsComplete, events_from};
 
 use crate::{Event, Happened, Input, Mark, merge, one_order};
-use command_frame::Reply;
 use log_base::{Committed, List};
+use reply_frame::Reply;
 use std::alloc::Global;
 use std::test::Fail;
 

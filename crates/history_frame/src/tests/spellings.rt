@@ -7,9 +7,9 @@ use crate::{
     Call, Event, Happened, History, Input, Kept, Mark, event_length, event_sized, one_history,
     write_event, write_head, write_history, write_kept,
 };
-use command_frame::Reply;
 use log_base::{Bytes, Client, Config, List, NodeId, Number, Position, Shard};
 use record_frame::Value;
+use reply_frame::Reply;
 use std::alloc::{AllocError, Global};
 use std::test::Fail;
 

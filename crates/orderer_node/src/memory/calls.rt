@@ -9,11 +9,11 @@ ghost use Rattle.orderer_node.specs.Answering.{IsOwn};
 ghost use Rattle.orderer_node.specs.Remembering.{HasRoom};
 
 use crate::memory::OrdererMemory;
-use command_frame::Reply;
 use cut_chain::Places;
 use finaliser::{Requested, Settling, settled};
 use log_base::Slot;
 use record_frame::Value;
+use reply_frame::Reply;
 
 impl<P: Places> OrdererMemory<P> {
     /// A client asks for a value to be decided.

@@ -9,10 +9,10 @@ ghost use Rattle.orderer_node.specs.Answering.{IsOwn};
 ghost use Rattle.orderer_node.specs.Ordering.{IsRead, IsReadBy, node_of, opening_mark};
 
 use crate::node::{OrdererNode, Standing, Turn};
-use command_frame::Reply;
 use cut_chain::Places;
 use history_frame::{Input, Mark};
 use log_base::Memory;
+use reply_frame::Reply;
 use segment_journal::{Installed, Journal, OpenFault};
 
 impl<J: Journal, P: Places> OrdererNode<J, P> {

@@ -16,12 +16,12 @@ ghost use Rattle.orderer_node.specs.Ordering.{FollowsSome, HasRow, IsCaused, IsR
 ghost use Rattle.orderer_node.specs.Remembering.{HasRoom};
 
 use crate::node::{OrdererNode, Standing, Turn};
-use command_frame::Reply;
 use cut_chain::Places;
 use event_letters::EventLetters;
 use history_frame::{Call, Input, Mark};
 use log_base::{Config, Outbox};
 use message_frame::Message;
+use reply_frame::Reply;
 use segment_journal::Journal;
 
 // How many bytes a letter has at most that is no report, and how many a report has.

@@ -13,11 +13,11 @@ ghost use Rattle.storage_node.specs.Turning.{TurnsOut};
 
 use super::{Mode, StorageNode};
 use crate::turn::Turn;
-use command_frame::Reply;
 use cut_chain::Places;
 use history_frame::Mark;
 use log_base::{Bytes, Client, Number, Position};
 use record_frame::Entry;
+use reply_frame::Reply;
 use segment_journal::Journal;
 use shard_replica::{Asked, ReadAnswer, Submitted};
 use std::mem;

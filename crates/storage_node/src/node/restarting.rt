@@ -9,10 +9,10 @@ ghost use Rattle.storage_node.specs.Turning.{TurnsOut};
 
 use super::{Mode, StorageNode};
 use crate::turn::Turn;
-use command_frame::Reply;
 use cut_chain::Places;
 use history_frame::Mark;
 use log_base::Memory;
+use reply_frame::Reply;
 use segment_journal::{Installed, Journal, OpenFault};
 
 impl<J: Journal, P: Places> StorageNode<J, P> {

@@ -1,7 +1,7 @@
 //! How an input turns out.
 
 ghost use Rattle.std.specs.Prelude.{◌≡◌, ◌≢◌, ℕ, [], ◌++◌, map, true, Some};
-ghost use Rattle.command_frame.specs.declared.replies.Reply.{Down};
+ghost use Rattle.reply_frame.specs.declared.replies.Reply.{Down};
 ghost use Rattle.history_frame.specs.declared.inputs.Input.TheVariants.{Call as ACall, Deliver, Restart, Stop};
 ghost use Rattle.message_frame.specs.Spelling.{IsMessage};
 ghost use Rattle.node_model.specs.Fits.{Fits, FitsLists, IsCallOf, IsMessageOf};
@@ -16,11 +16,11 @@ ghost use Rattle.storage_node.specs.Turning.{TurnsOut};
 
 use super::{Mode, StorageNode};
 use crate::turn::Turn;
-use command_frame::Reply;
 use cut_chain::Places;
 use history_frame::{Call, Input, Mark};
 use log_base::Outbox;
 use message_frame::Message;
+use reply_frame::Reply;
 use segment_journal::Journal;
 
 impl<J: Journal, P: Places> StorageNode<J, P> {

@@ -1,6 +1,6 @@
 use Rattle.std.proofs.Common.{◌∷◌, ◌++◌, [], length}
 use Rattle.log_base.specs.Wide.{be2, be4, be8}
-use Rattle.command_frame.proofs.Puts.{two_puts, four_puts}
+use Rattle.reply_frame.proofs.Puts.{two_puts, four_puts}
 use Rattle.history_frame.proofs.input_writing.put_submit.Goals as goal
 
 pub returns-clause-items : goal.returns-clause-items

@@ -3,8 +3,8 @@ use Rattle.log_base.specs.ClusterShape.{Shape}
 use Rattle.log_base.specs.Shape.{shape}
 use Rattle.log_base.specs.declared.numbers.NodeId.{NodeId}
 use Rattle.record_frame.proofs.FieldLaws.{ok_is}
-use Rattle.command_frame.specs.Frames.{frame}
-use Rattle.command_frame.proofs.FrameLaws.{one_frame}
+use Rattle.reply_frame.specs.Frames.{frame}
+use Rattle.reply_frame.proofs.FrameLaws.{one_frame}
 use Rattle.history_frame.specs.declared.events.Event.{Event}
 use Rattle.history_frame.specs.Frames.{IsEventBody}
 use Rattle.history_frame.specs.Reading.{ToldHappened, happened_told, head_of, kept_of, event_of}

@@ -1,6 +1,6 @@
 use Rattle.std.proofs.Common.{ℕ, List, ◌++◌, ap, ◌∙◌}
 use Rattle.std.specs.List.{flat_map}
-use Rattle.command_frame.specs.Replies.{reply_bytes}
+use Rattle.reply_frame.specs.Replies.{reply_bytes}
 use Rattle.history_frame.specs.declared.events.Sent.{Sent}
 use Rattle.history_frame.specs.Spelling.{front_spelling, sent_spelling}
 use Rattle.history_frame.proofs.Puts.{three_puts, event_whole}

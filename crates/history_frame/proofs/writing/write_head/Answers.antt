@@ -1,7 +1,7 @@
 use Rattle.std.proofs.Common.{ℕ, List, [], ◌∷◌, ◌++◌, ap, ◌∙◌}
 use Rattle.log_base.specs.Wide.{be4}
 use Rattle.log_base.specs.Shape.{shape}
-use Rattle.command_frame.proofs.Puts.{four_puts}
+use Rattle.reply_frame.proofs.Puts.{four_puts}
 use Rattle.history_frame.proofs.Puts.{head_whole}
 use Rattle.history_frame.proofs.writing.write_head.Goals as goal
 

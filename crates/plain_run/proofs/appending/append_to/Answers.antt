@@ -1,6 +1,6 @@
 use Rattle.std.proofs.Common.{◌≡◌, ◌+◌, List, [], ◌∷◌, ◌++◌, ap, sym, subst, ◌∙◌, arith}
-use Rattle.command_frame.specs.Replies.{HasSpelling}
-use Rattle.command_frame.specs.declared.replies.Reply.{Reply}
+use Rattle.reply_frame.specs.Replies.{HasSpelling}
+use Rattle.reply_frame.specs.declared.replies.Reply.{Reply}
 use Rattle.node_table.specs.Numbering.{storage_node}
 use Rattle.plain_log.specs.Log.{LogState}
 use Rattle.record_frame.specs.declared.values.Value.{Value}

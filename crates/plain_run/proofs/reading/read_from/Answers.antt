@@ -1,7 +1,7 @@
 use Rattle.std.proofs.Common.{◌≡◌, ◌∙◌}
 use Rattle.log_base.specs.Shape.{shape}
-use Rattle.command_frame.specs.declared.replies.Reply.{Reply}
-use Rattle.command_frame.specs.Replies.{HasSpelling}
+use Rattle.reply_frame.specs.declared.replies.Reply.{Reply}
+use Rattle.reply_frame.specs.Replies.{HasSpelling}
 use Rattle.plain_log.specs.Log.{LogState, read_in}
 use Rattle.plain_run.specs.Reading.{MayRead}
 use Rattle.plain_run.proofs.Finds.{IsReplyOf, covered_in, node_in, ok_weaker, other_reply, own_reply, there_reply}

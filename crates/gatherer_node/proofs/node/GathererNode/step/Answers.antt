@@ -1,5 +1,5 @@
 use Rattle.std.proofs.Common.{refl, rules}
-use Rattle.command_frame.specs.declared.replies.Reply.{Nothing}
+use Rattle.reply_frame.specs.declared.replies.Reply.{Nothing}
 use Rattle.history_frame.specs.declared.events.Happened.{Happened}
 use Rattle.gatherer_node.proofs.EventSizes.{event_short}
 use Rattle.gatherer_node.proofs.node.GathererNode.step.Goals as goal

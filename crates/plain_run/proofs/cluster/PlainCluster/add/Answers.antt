@@ -2,7 +2,7 @@ use Rattle.std.proofs.Common.{◌<◌, ℕ, List, length, ap, sym, refl, subst, 
 use Rattle.std.proofs.lemmas.List.{with_items_is}
 use Rattle.log_base.specs.Shape.{shape}
 use Rattle.command_frame.specs.declared.items.Item.TheVariants.{Add}
-use Rattle.command_frame.specs.declared.replies.Reply.{Settled}
+use Rattle.reply_frame.specs.declared.replies.Reply.{Settled}
 use Rattle.shard_replica.specs.Replica.{Replicated}
 use Rattle.plain_run.specs.Cluster.{Answers, Clustered, IsAsBefore, IsCluster, IsUnanswered}
 use Rattle.plain_run.specs.Moving.{IsSteady}

@@ -6,7 +6,7 @@ use Rattle.log_base.specs.Shape.{shape}
 use Rattle.record_frame.specs.declared.entries.Entry.{Entry}
 use Rattle.record_frame.specs.Entries.{entry_of}
 use Rattle.command_frame.specs.declared.items.Item.TheVariants.{Append}
-use Rattle.command_frame.specs.declared.replies.Reply.{Reply, Down, Halted}
+use Rattle.reply_frame.specs.declared.replies.Reply.{Reply, Down, Halted}
 use Rattle.command_frame.specs.Items.{IsItem}
 use Rattle.plain_log.specs.Log.{next_entry}
 use Rattle.shard_replica.specs.Replica.{Replicated}

@@ -1,7 +1,7 @@
 use Rattle.std.proofs.Common.{◌<◌, ℕ, sym, subst}
 use Rattle.log_base.specs.Shape.{shape}
 use Rattle.command_frame.specs.declared.items.Item.TheVariants.{Read}
-use Rattle.command_frame.specs.declared.replies.Reply.{Reply, Down}
+use Rattle.reply_frame.specs.declared.replies.Reply.{Reply, Down}
 use Rattle.plain_run.specs.Cluster.{Answers, Clustered}
 use Rattle.plain_run.specs.Reading.{MayRead}
 use Rattle.plain_run.proofs.Clusters.{log_in, may_read, read_refused, read_served}

@@ -1,6 +1,6 @@
 use Rattle.std.proofs.Common.{◌≡◌, ◌∙◌, ◌≤◌, length, refl, sym, ap, subst}
-use Rattle.command_frame.specs.declared.replies.Reply.{Reply}
-use Rattle.command_frame.specs.Replies.{reply_bytes}
+use Rattle.reply_frame.specs.declared.replies.Reply.{Reply}
+use Rattle.reply_frame.specs.Replies.{reply_bytes}
 use Rattle.storage_node.specs.declared.node.Mode.TheVariants.{Running}
 use Rattle.storage_node.specs.StorageState.{StorageState}
 use Rattle.storage_node.proofs.Calls.{looked-reply, looked-short, turns-looked}

@@ -2,10 +2,10 @@ use Rattle.std.proofs.Common.{List, ◌∷◌, ◌++◌, length, ap, sym, ◌∙
 use Rattle.std.specs.List.{flat_map}
 use Rattle.log_base.specs.Wide.{be2, be8}
 use Rattle.record_frame.specs.declared.entries.Entry.{Entry}
-use Rattle.command_frame.specs.declared.replies.Reply.{Reply}
-use Rattle.command_frame.specs.Replies.{entry_bytes, reply_bytes}
-use Rattle.command_frame.proofs.Puts.{four_puts}
-use Rattle.command_frame.proofs.writing.+put_reply.Goals as goal
+use Rattle.reply_frame.specs.declared.replies.Reply.{Reply}
+use Rattle.reply_frame.specs.Replies.{entry_bytes, reply_bytes}
+use Rattle.reply_frame.proofs.Puts.{four_puts}
+use Rattle.reply_frame.proofs.writing.+put_reply.Goals as goal
 
 pub returns-in-Stream : goal.returns-in-Stream
 unfolding be2 be8

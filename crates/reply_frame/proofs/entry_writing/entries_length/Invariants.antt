@@ -1,7 +1,7 @@
 use Rattle.std.proofs.Common.{◌≡◌, ◌+◌, length, drop}
 use Rattle.std.specs.List.{flat_map, AllByRecursion}
-use Rattle.command_frame.specs.Replies.{IsShort, entry_bytes}
-use Rattle.command_frame.proofs.entry_writing.entries_length.Given as goal
+use Rattle.reply_frame.specs.Replies.{IsShort, entry_bytes}
+use Rattle.reply_frame.proofs.entry_writing.entries_length.Given as goal
 
 -- the length so far and that of the entries left are that of all
 abbrev pub invariant-loop-entry : goal.invariant-loop-entry

@@ -2,7 +2,7 @@
 
 ghost use Rattle.std.specs.Prelude.{◌≡◌, ℕ, ◌+◌, ◌≤◌, ◌∷◌, ◌++◌, length, vec_len, vec_capacity, IsOk, OnOk, OnErr};
 ghost use Rattle.log_base.specs.Wide.{be2, be4, be8};
-ghost use Rattle.command_frame.specs.Replies.{HasSpelling, IsReply, reply_bytes, reply_spelling};
+ghost use Rattle.reply_frame.specs.Replies.{HasSpelling, IsReply, reply_bytes, reply_spelling};
 
 use crate::entry_writing::{entries_length, entry_length, put_entries, put_entry};
 use crate::replies::Reply;

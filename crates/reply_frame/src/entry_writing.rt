@@ -2,7 +2,7 @@
 
 ghost use Rattle.std.specs.Prelude.{◌≡◌, ◌+◌, ◌≤◌, ◌++◌, length, vec_len, vec_capacity};
 ghost use Rattle.std.specs.List.{flat_map, AllByRecursion};
-ghost use Rattle.command_frame.specs.Replies.{IsShort, entry_bytes};
+ghost use Rattle.reply_frame.specs.Replies.{IsShort, entry_bytes};
 
 use log_base::{put_bytes, put_u16, put_u32, put_u64};
 use record_frame::Entry;

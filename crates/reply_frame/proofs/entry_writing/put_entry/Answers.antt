@@ -1,7 +1,7 @@
 use Rattle.std.proofs.Common.{ℕ, List, ◌++◌, length, ap, ◌∙◌}
 use Rattle.log_base.specs.Wide.{be2, be4, be8}
-use Rattle.command_frame.proofs.Puts.{four_puts}
-use Rattle.command_frame.proofs.entry_writing.put_entry.Goals as goal
+use Rattle.reply_frame.proofs.Puts.{four_puts}
+use Rattle.reply_frame.proofs.entry_writing.put_entry.Goals as goal
 
 pub returns-clause-items : goal.returns-clause-items
 unfolding be2 be4 be8

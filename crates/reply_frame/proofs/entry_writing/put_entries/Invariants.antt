@@ -1,7 +1,7 @@
 use Rattle.std.proofs.Common.{◌≡◌, ◌+◌, ◌≤◌, ◌++◌, length, drop, vec_len, vec_capacity}
 use Rattle.std.specs.List.{flat_map, AllByRecursion}
-use Rattle.command_frame.specs.Replies.{IsShort, entry_bytes}
-use Rattle.command_frame.proofs.entry_writing.put_entries.Given as goal
+use Rattle.reply_frame.specs.Replies.{IsShort, entry_bytes}
+use Rattle.reply_frame.proofs.entry_writing.put_entries.Given as goal
 
 -- what is there and the entries left are what was there and all entries
 abbrev pub invariant-loop-entry : goal.invariant-loop-entry

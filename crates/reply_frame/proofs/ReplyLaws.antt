@@ -6,8 +6,8 @@ use Rattle.log_base.specs.Wide.{be2, be4, be8, number2, number4}
 use Rattle.log_base.proofs.Wide.{length-be2, length-be8, number2-be2, number4-be4}
 use Rattle.log_base.specs.declared.numbers.Position.{Position}
 use Rattle.record_frame.specs.declared.entries.Entry.{Entry}
-use Rattle.command_frame.specs.declared.replies.Reply.{Reply, Nothing, Stored, At, Found, PendingAsk, PendingRead, PendingWish, Finalised, FinalisedAt, NotAdded, Stale, Full, Halted, Down, Missing, Trimmed, Elsewhere, Taken, NoSuchShard, NotLeading, Settled, Stream', NoLeader, NoLetter, NothingKept, Done, Spent}
-use Rattle.command_frame.specs.Replies.{entry_bytes, reply_bytes, IsShort, IsNodeAnswer, IsReply}
+use Rattle.reply_frame.specs.declared.replies.Reply.{Reply, Nothing, Stored, At, Found, PendingAsk, PendingRead, PendingWish, Finalised, FinalisedAt, NotAdded, Stale, Full, Halted, Down, Missing, Trimmed, Elsewhere, Taken, NoSuchShard, NotLeading, Settled, Stream', NoLeader, NoLetter, NothingKept, Done, Spent}
+use Rattle.reply_frame.specs.Replies.{entry_bytes, reply_bytes, IsShort, IsNodeAnswer, IsReply}
 
 -- ---- lists of the same length
 

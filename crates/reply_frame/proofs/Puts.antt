@@ -2,8 +2,8 @@
 use Rattle.std.proofs.Common.{◌≡◌, ℕ, ◌+◌, List, ◌∷◌, ◌++◌, length, ap, ◌∙◌, append_assoc, length-append, arith}
 use Rattle.log_base.specs.Wide.{be4}
 use Rattle.log_base.proofs.Wide.{length-be4}
-use Rattle.command_frame.specs.declared.replies.Reply.{Reply}
-use Rattle.command_frame.specs.Replies.{reply_bytes, reply_spelling}
+use Rattle.reply_frame.specs.declared.replies.Reply.{Reply}
+use Rattle.reply_frame.specs.Replies.{reply_bytes, reply_spelling}
 
 pub two_puts : (old a b x y : List ℕ) → x ≡ old ++ a → y ≡ x ++ b → y ≡ old ++ (a ++ b)
 two_puts old a b x y p q = q ∙ ap (λ (l : List ℕ). l ++ b) p ∙ append_assoc old a b

@@ -1,7 +1,7 @@
 //! A reply of each kind.
 
 ghost use Rattle.std.specs.Prelude.{◌≡◌, length, IfOk};
-ghost use Rattle.command_frame.specs.Replies.{HasSpelling};
+ghost use Rattle.reply_frame.specs.Replies.{HasSpelling};
 
 use crate::{Reply, write_reply};
 use log_base::{Bytes, Client, List, Memory, Number, Position, Shard, Slot};

@@ -1,0 +1,3 @@
+//! A reply of each kind.
+
+mod replies;
