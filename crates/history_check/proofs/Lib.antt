@@ -1,0 +1,6 @@
+pub mod CourseLaws
+pub mod HistoryPieces
+pub mod JudgeLaws
+pub mod NextLaws
+pub mod OneMeaning
+pub mod OneVerdict

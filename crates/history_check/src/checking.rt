@@ -1,0 +1,120 @@
+//! Reading and judging.
+
+ghost use Rattle.std.specs.Prelude.{◌≡◌, ◌⊎◌, ℕ, ◌≤◌, List, [], Option, Some, IfErr, IfOk};
+ghost use Rattle.history_frame.specs.declared.events.History.{History};
+ghost use Rattle.history_frame.specs.declared.pieces.Piece.{Piece};
+ghost use Rattle.log_base.specs.Outside.{Rose, TakesOn, unread};
+ghost use Rattle.history_check.specs.Verdicts.{AreHistory, IsFault, IsVerdict, ReadsHistory, fault_of};
+ghost use Rattle.history_check.specs.Judging.{GoesOn, Judges, JudgesAll};
+ghost use Rattle.history_check.specs.declared.verdicts.Verdict.{Verdict};
+
+use crate::judge::Judge;
+use crate::verdicts::{CheckFault, Verdict};
+use history_frame::{HistoryReader, Piece};
+use log_base::Source;
+use reply_frame::ItemFault;
+use std::alloc::Global;
+
+/// How many frames an input may have. As many have more than 2^62 bytes.
+const FRAMES: u64 = 1 << 60;
+
+/// The limit of frames, as it is told.
+const TOO_MANY_FRAMES: u8 = 1;
+
+/// How far an input was judged: there may be more of it, or there is none.
+#[derive(Drop)]
+pub(crate) enum Course {
+    Goes(Judge),
+    Ends(Judge),
+}
+
+/// Whether the history that a source holds is legal. Replies before its head are read and not judged. The
+/// source is read to its end, and a fault of reading goes before a verdict.
+pub fn check<S: Source>(alloc: Global, source: &mut S) -> Result<Verdict, CheckFault>
+    ensures verdict { IfOk result (λ verdict. ReadsHistory (S.left source.old) (S.left source.new) (λ history. IsVerdict history verdict)) }
+    ensures fault { IfErr result (IsFault (λ at. Rose (S.faults source.old) (S.faults source.new) × TakesOn 0 at (S.left source.old) (S.left source.new)) (S.left source.old)) }
+    ensures later { S.faults source.old ≤ S.faults source.new }
+
+    // Which verdict it is: a history that is told and read without a fault has the one that is true of it.
+    ensures exact { (bytes : List ℕ) (history : History) (verdict : Verdict) → S.left source.old ≡ Some bytes → AreHistory bytes history → IsVerdict history verdict
+        → (Rose (S.faults source.old) (S.faults source.new) → ⊥) → (result ≡ Ok verdict) ⊎ (result ≡ Err CheckFault.Memory) }
+{
+    judge_history(alloc, source)
+}
+
+// The verdict on the history of a source.
+fn judge_history<S: Source>(alloc: Global, source: &mut S) -> Result<Verdict, CheckFault>
+    ensures verdict { IfOk result (λ verdict. ReadsHistory (S.left source.old) (S.left source.new) (λ history. IsVerdict history verdict)) }
+    ensures fault { IfErr result (IsFault (λ at. Rose (S.faults source.old) (S.faults source.new) × TakesOn 0 at (S.left source.old) (S.left source.new)) (S.left source.old)) }
+    ensures later { S.faults source.old ≤ S.faults source.new }
+{
+    let mut reader = HistoryReader::new(alloc);
+    let judge = judge_all(alloc, &mut reader, source)?;
+    let verdict = judge.verdict(alloc)?;
+    Ok(verdict)
+}
+
+// The judge of all frames of a source, from a reader that has read nothing.
+fn judge_all<S: Source>(
+    alloc: Global,
+    reader: &mut HistoryReader,
+    source: &mut S,
+) -> Result<Judge, CheckFault>
+    requires new { Judges (S.left source.old) (unread reader.old.pending (S.left source.old)) reader.old Judge.Waiting [] }
+    requires untaken { reader.old.taken ≡ 0 }
+    ensures judge { IfOk result (λ judge. (pieces : List Piece) × JudgesAll (S.left source.old) (unread reader.new.pending (S.left source.new)) reader.new judge pieces) }
+    ensures fault { IfErr result (IsFault (λ at. Rose (S.faults source.old) (S.faults source.new) × TakesOn 0 at (S.left source.old) (S.left source.new)) (S.left source.old)) }
+    ensures later { S.faults source.old ≤ S.faults source.new }
+{
+    let mut judge = Judge::Waiting;
+    'frames: for _count in 0..FRAMES + 1 {
+        match judge_next(alloc, reader, source, judge) {
+            Ok(Course::Goes(next)) => judge = next,
+            Ok(Course::Ends(last)) => return Ok(last),
+            Err(fault) => return Err(fault),
+        }
+    }
+    Err(CheckFault::Many {
+        cause: TOO_MANY_FRAMES,
+    })
+}
+
+// Judges the next frame.
+fn judge_next<S: Source>(
+    alloc: Global,
+    reader: &mut HistoryReader,
+    source: &mut S,
+    judge: Judge,
+) -> Result<Course, CheckFault>
+    requires { (before : Option (List ℕ)) × (pieces : List Piece) × Judges before (unread reader.old.pending (S.left source.old)) reader.old judge pieces }
+    ensures course { IfOk result (λ course. (before : Option (List ℕ)) (pieces : List Piece) → Judges before (unread reader.old.pending (S.left source.old)) reader.old judge pieces
+        → GoesOn before (unread reader.new.pending (S.left source.new)) reader.new pieces course) }
+    ensures fault { IfErr result (λ fault. (before : Option (List ℕ)) (pieces : List Piece) → Judges before (unread reader.old.pending (S.left source.old)) reader.old judge pieces
+        → IsFault (λ at. Rose (S.faults source.old) (S.faults source.new) × (at ≡ reader.new.taken)) before fault) }
+    ensures taken { TakesOn reader.old.taken reader.new.taken (S.left source.old) (S.left source.new) }
+    ensures later { S.faults source.old ≤ S.faults source.new }
+{
+    let piece = match reader.next(source) {
+        Ok(piece) => piece,
+        Err(fault) => return Err(told(fault)),
+    };
+    match piece {
+        Piece::End => return Ok(Course::Ends(judge)),
+        other => {
+            let judged = judge.take(alloc, other)?;
+            return Ok(Course::Goes(judged));
+        }
+    }
+}
+
+// A fault of the reader, as the checker tells it.
+fn told(fault: ItemFault) -> CheckFault
+    ensures { result ≡ fault_of fault }
+{
+    match fault {
+        ItemFault::Bad { at } => CheckFault::Bad { at },
+        ItemFault::Read { at } => CheckFault::Read { at },
+        ItemFault::Many { cause } => CheckFault::Many { cause },
+        ItemFault::Memory => CheckFault::Memory,
+    }
+}

@@ -1,0 +1,14 @@
+//! The checker of histories: whether the history that bytes stand for is legal.
+//!
+//! It reads the frames one by one, and walks the rules event by event beside them.
+#![tactic(auto)]
+
+mod checking;
+mod judge;
+mod verdicts;
+
+pub use checking::check;
+pub use verdicts::{CheckFault, Verdict};
+
+#[cfg(test)]
+mod tests;

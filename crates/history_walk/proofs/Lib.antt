@@ -1,0 +1,11 @@
+pub mod Answering
+pub mod Begun
+pub mod Filled
+pub mod Offered
+pub mod Keeping
+pub mod Marked
+pub mod NodeReplies
+pub mod Noting
+pub mod Puts
+pub mod Steps
+pub mod Takes

@@ -1,0 +1,10 @@
+pub mod Beginning
+pub mod Filling
+pub mod InMemory
+pub mod Keeping
+pub mod Letters
+pub mod Planning
+pub mod Replies
+pub mod Stepped
+pub mod Submitting
+pub mod Walking
