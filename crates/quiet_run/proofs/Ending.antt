@@ -10,17 +10,22 @@ use Rattle.history_frame.specs.declared.events.Event.{Event}
 use Rattle.log_base.specs.ClusterShape.{InRange, Shape}
 use Rattle.node_model.specs.Machine.{ClusterNode}
 use Rattle.node_table.specs.Numbering.{nodes_of}
+use Rattle.shard_replica.specs.Lists.{Medium}
+use Rattle.quiet_run.specs.declared.outcomes.DriveStop.{DriveStop}
 use Rattle.quiet_run.specs.declared.running.Running.{Running}
+use Rattle.quiet_run.specs.Causes.{HaveCauses}
 use Rattle.quiet_run.specs.Limits.{known_by, limit_passed}
-use Rattle.quiet_run.specs.Running.{HasGoneOn, IsBeginning, IsOnItsWay, IsUnderWay, job_of, scheduled_in}
-use Rattle.quiet_run.specs.Runs.{IsKnownAtMost, IsRunSoFar, IsWithinLimits, KnowsMost, NoLimitBefore, count_in}
+use Rattle.quiet_run.specs.Running.{CausesGoOn, HasGoneOn, IsBeginning, IsOnItsWay, IsUnderWay, StopsWith, job_of, scheduled_in}
+use Rattle.quiet_run.specs.Runs.{IsKnownAtMost, IsRunSoFar, IsStoppedWith, IsWithinLimits, KnowsMost, NoLimitBefore, count_in}
 use Rattle.quiet_run.specs.Standing.{IsJob, Job, StandAfter, node_of}
+use Rattle.quiet_run.proofs.Failures.{no_causes}
 
 module _ (job : Job) (nodes : List ClusterNode) (is_job : IsJob job) (stand : StandAfter job [] nodes) where
   pub at_first_so_far : IsRunSoFar job [] nodes
   at_first_so_far = record {
     legal = record { config_in_range = is_job.is_run.in_range; sound = is_job.sound; follow = tt };
     followed = tt;
+    spelled = tt;
     stand = stand;
   }
 
@@ -43,6 +48,31 @@ under_way_on job old new nodes is gone =
       way = subst (λ (j : Job). IsOnItsWay j new.events.items new.bytes nodes) same gone.way;
       scheduled = gone.scheduled ∙ ap (λ (j : Job). scheduled_in j new.events.items) same;
     }
+
+-- ---- the causes of failures, from the beginning on
+
+module _ (job : Job) (running : Running) (begins : IsBeginning job running) (told new : List (List Medium)) where
+  none_yet : HaveCauses (job_of running).config running.events.items told told
+  none_yet = subst (λ (es : List Event). HaveCauses (job_of running).config es told told) (sym begins.events_are) (no_causes (job_of running).config told)
+
+  pub causes_from_first : (events : List Event) → CausesGoOn (job_of running).config running.events.items events told new → HaveCauses job.config events told new
+  causes_from_first events on = subst (λ (j : Job). HaveCauses j.config events told new) begins.job_is (on told none_yet)
+
+  pub stopped_from_first : (nodes : List ClusterNode) (stop : DriveStop) → StopsWith (job_of running) running.events.items nodes told new stop → IsStoppedWith job nodes told new stop
+  stopped_from_first nodes stop on = subst (λ (j : Job). IsStoppedWith j nodes told new stop) begins.job_is (on told none_yet)
+
+-- the causes after one turn more
+pub causes_then : (job : Job) (running : Running) (earlier later : List Event) (first old new : List (List Medium)) → job_of running ≡ job → CausesGoOn job.config earlier running.events.items first old
+    → CausesGoOn (job_of running).config running.events.items later old new → CausesGoOn job.config earlier later first new
+causes_then job running earlier later first old new is before after at_first h =
+    subst (λ (j : Job). HaveCauses j.config later at_first new) is
+    (after at_first (subst (λ (j : Job). HaveCauses j.config running.events.items at_first old) (sym is) (before at_first h)))
+
+pub stopped_then : (job : Job) (running : Running) (earlier : List Event) (nodes : List ClusterNode) (first old new : List (List Medium)) (stop : DriveStop) → job_of running ≡ job
+    → CausesGoOn job.config earlier running.events.items first old → StopsWith (job_of running) running.events.items nodes old new stop → StopsWith job earlier nodes first new stop
+stopped_then job running earlier nodes first old new stop is before after at_first h =
+    subst (λ (j : Job). IsStoppedWith j nodes at_first new stop) is
+    (after at_first (subst (λ (j : Job). HaveCauses j.config running.events.items at_first old) (sym is) (before at_first h)))
 
 -- no limit was passed at any moment
 take_whole : {A : Type 0} (xs : List A) → take (length xs) xs ≡ xs

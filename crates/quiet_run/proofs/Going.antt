@@ -2,6 +2,7 @@
 use Rattle.std.proofs.Common.{◌≡◌, ◌<◌, ◌≤◌, ◌+◌, ℕ, Bool, List, [], ◌∷◌, ◌++◌, length, Option, Some, None, is_some, refl, sym, ap, subst, ◌∙◌}
 use Rattle.std.specs.Prelude.{Result, Ok, Err, IfErr, IsErrAnd, OnOk, OnErr}
 use Rattle.std.proofs.lemmas.List.{length-append}
+use Rattle.std.proofs.lemmas.Option.{same_Some}
 use Rattle.history_frame.specs.declared.events.Event.{Event}
 use Rattle.history_frame.specs.declared.events.Happened.{Happened}
 use Rattle.history_frame.specs.Spelling.{event_size}
@@ -12,12 +13,15 @@ use Rattle.serial_schedule.specs.Scheduling.{Scheduled, Step, given, next_step, 
 use Rattle.serial_schedule.proofs.RunLaws.{event_more}
 use Rattle.quiet_run.specs.declared.outcomes.DriveStop.TheVariants.{Limit, Memory}
 use Rattle.quiet_run.specs.declared.running.Running.{Running}
+use Rattle.shard_replica.specs.Lists.{Medium}
+use Rattle.quiet_run.specs.Causes.{AllCountOn, HasCause, journals_at, media_at}
 use Rattle.quiet_run.specs.Limits.{byte_limit, bytes_of, event_limit, is_one_full, limit_of, limit_passed}
-use Rattle.quiet_run.specs.Running.{CanKeep, HasGoneOn, IsOnItsWay, IsOver, IsTurnDue, Keeps, event_next, job_of, scheduled_in}
+use Rattle.quiet_run.specs.Running.{CanKeep, CausesGoOn, HasGoneOn, IsOnItsWay, IsOver, IsTurnDue, Keeps, StopsWith, event_next, job_of, scheduled_in}
 use Rattle.quiet_run.specs.Runs.{IsRunSoFar, IsStoppedRun}
-use Rattle.quiet_run.specs.Standing.{Job}
-use Rattle.quiet_run.specs.Turns.{TakesTurn}
-use Rattle.quiet_run.proofs.Next.{given_place, goes_on, single, spelled}
+use Rattle.quiet_run.specs.Standing.{Job, node_of}
+use Rattle.quiet_run.specs.Turns.{ShowsMark, TakesTurn}
+use Rattle.quiet_run.proofs.Failures.{causes_later, causes_push}
+use Rattle.quiet_run.proofs.Next.{given_place, goes_on, single, spelled, within as turn_in_cluster}
 use Rattle.quiet_run.proofs.Passing.{bytes_push, no_limit_push, room_left}
 
 -- ---- answers
@@ -39,6 +43,14 @@ module _ {A E : Type 0} where
 pub stopped_before : (job : Job) (events : List Event) (nodes new : List ClusterNode) → IsRunSoFar job events nodes → new ≡ nodes → IsStoppedRun job new Memory
 stopped_before job events nodes new so_far same =
     subst (λ (ns : List ClusterNode). IsStoppedRun job ns Memory) (sym same) (record { events = events; so_far = so_far; stops = tt })
+
+-- so with the causes of what its events show
+pub stopped_with_before : (job : Job) (events : List Event) (nodes new : List ClusterNode) (told after : List (List Medium)) → IsRunSoFar job events nodes → new ≡ nodes
+    → AllCountOn told after → StopsWith job events new told after Memory
+stopped_with_before job events nodes new told after so_far same counts first causes = record {
+  run = record { events = events; so_far = subst (IsRunSoFar job events) (sym same) so_far; stops = tt };
+  causes = causes_later job.config events first told after counts causes;
+}
 
 -- ---- where a turn is due
 
@@ -70,6 +82,26 @@ module _ (running : Running) (nodes : List ClusterNode) (way : IsOnItsWay (job_o
 
     so_far : IsRunSoFar a_job (past ++ event ∷ []) new
     so_far = goes_on a_job way.is_job past nodes way.so_far turn due.next happened new taken
+
+    -- the causes of failures go on with it
+    module _ (told told_new : List (List Medium)) (shows : ShowsMark turn.node.0 happened.mark nodes told told_new) where
+      node_is : shows.node ≡ node_of a_job past turn.node.0
+      node_is =
+          same_Some shows.node (node_of a_job past turn.node.0)
+          (sym shows.at ∙ way.so_far.stand.each turn.node.0 (turn_in_cluster a_job way.is_job past nodes way.so_far turn due.next))
+
+      cause_here : HasCause (journals_at a_job.config turn.node.0) happened.mark (media_at told turn.node.0) (media_at told_new turn.node.0)
+      cause_here =
+          subst (λ (x : ClusterNode). HasCause (journals_at x.config x.number) happened.mark (media_at told turn.node.0) (media_at told_new turn.node.0)) node_is shows.here
+
+      pub causes_go_on : CausesGoOn a_job.config past (past ++ event ∷ []) told told_new
+      causes_go_on first h = causes_push a_job.config past event first told told_new cause_here shows.others h
+
+      pub stopped_with_after : StopsWith a_job past new told told_new Memory
+      stopped_with_after first h = record { run = record { events = past ++ event ∷ []; so_far = so_far; stops = tt }; causes = causes_go_on first h }
+
+      pub causes_kept : (after : Running) → Keeps turn.node happened running after → CausesGoOn a_job.config past after.events.items told told_new
+      causes_kept after keeps = subst (λ (es : List Event). CausesGoOn a_job.config past es told told_new) (sym keeps.events) causes_go_on
 
     pub stopped_after : IsStoppedRun a_job new Memory
     stopped_after = record { events = past ++ event ∷ []; so_far = so_far; stops = tt }
@@ -125,6 +157,9 @@ module _ (job : Job) (events : List Event) (bytes : ℕ) (nodes : List ClusterNo
 
   pub stopped_at : (cause : ℕ) → limit_passed job events ≡ Some cause → IsStoppedRun job nodes (Limit cause)
   stopped_at cause passed = record { events = events; so_far = way.so_far; stops = (passed, way.no_limit) }
+
+  pub stopped_with_at : (cause : ℕ) (told : List (List Medium)) → limit_passed job events ≡ Some cause → StopsWith job events nodes told told (Limit cause)
+  stopped_with_at cause told passed first h = record { run = record { events = events; so_far = way.so_far; stops = (passed, way.no_limit) }; causes = h }
 
   pub turn_due : (turn : Turn) (after : Scheduled) → next ≡ Some turn → after ≡ given scheduled → limit_passed job events ≡ None → IsTurnDue job events after turn
   turn_due turn after some g none = record { none = none; next = coming ∙ some; given_is = g ∙ ap given is }

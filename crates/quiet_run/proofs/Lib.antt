@@ -6,8 +6,13 @@ pub mod RowAnswers
 pub mod NodeAnswers
 pub mod Coming
 pub mod Taken
+pub mod Rises
+pub mod Failures
+pub mod Causing
 pub mod Next
 pub mod Going
 pub mod Mosts
 pub mod Ending
+pub mod Spelling
+pub mod Starts
 pub mod Empty

@@ -5,7 +5,7 @@ use Rattle.std.proofs.lemmas.Option.{same_Some}
 use Rattle.history_frame.specs.declared.events.Event.{Event}
 use Rattle.history_frame.specs.declared.events.Happened.{Happened}
 use Rattle.history_frame.specs.declared.inputs.Input.{Input}
-use Rattle.history_frame.specs.Spelling.{IsHappened}
+use Rattle.history_frame.specs.Spelling.{IsEvent, IsHappened}
 use Rattle.node_model.specs.Fits.{Fits}
 use Rattle.node_model.specs.Histories.{IsDelivered}
 use Rattle.node_model.specs.Legal.{IsNext, submitted}
@@ -18,6 +18,7 @@ use Rattle.serial_schedule.specs.declared.turns.Turn.{Turn}
 use Rattle.serial_schedule.specs.Driven.{IsFollowed, next_turn_after, scheduled_after, turn_of}
 use Rattle.serial_schedule.specs.Keeping.{IsSingle}
 use Rattle.serial_schedule.specs.Scheduling.{Scheduled, Waiting, at_first, delivery, first_step, given, ready, rest_in}
+use Rattle.serial_schedule.proofs.Kept.{each-append}
 use Rattle.serial_schedule.proofs.Posted.{events-posted, first-posted-is, ready-posted}
 use Rattle.serial_schedule.proofs.RunLaws.{event_agrees, followed_more, turn_allowed, turn_delivered, turn_of_run}
 use Rattle.quiet_run.specs.Runs.{IsRunSoFar}
@@ -51,7 +52,7 @@ module _ (job : Job) (is_job : IsJob job) (events : List Event) (nodes : List Cl
   delivered = turn_delivered job.config job.run job.items events turn next
 
   -- a node of the cluster has the turn
-  within : turn.node.0 < nodes_of job.config
+  pub within : turn.node.0 < nodes_of job.config
   within =
       letter_within job.config job.run job.kept events so_far.legal turn.node.0 turn.input
       (λ plain. (turn_allowed job.config job.run job.items events turn is_job.is_run next plain).node) delivered
@@ -95,16 +96,17 @@ module _ (job : Job) (is_job : IsJob job) (events : List Event) (nodes : List Cl
     after_is : set nodes turn.node.0 (turned job events nodes so_far.stand event within) ≡ new
     after_is = ap (λ (x : ClusterNode). set nodes turn.node.0 (node_meanings.after x happened)) (sym node_is) ∙ sym taken.after
 
+    pub spelled : IsHappened happened
+    spelled = next_is_spelled job.config job.run job.kept events so_far.legal event is_next taken.few taken.size
+
     -- the run goes on with it
     pub goes_on : IsRunSoFar job (events ++ event ∷ []) new
     goes_on = record {
       legal = legal_push job.config job.run job.kept events so_far.legal event is_next;
       followed = followed;
+      spelled = each-append IsEvent events (event ∷ []) so_far.spelled (spelled, tt);
       stand = subst (StandAfter job (events ++ event ∷ [])) after_is (stand_push job events nodes so_far.stand event within);
     }
-
-    pub spelled : IsHappened happened
-    spelled = next_is_spelled job.config job.run job.kept events so_far.legal event is_next taken.few taken.size
 
     pub single : IsSingle happened.reply
     single = answer_is_single happened.reply (next_answers job.config job.run job.kept events so_far.legal event is_next)

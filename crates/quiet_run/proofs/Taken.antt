@@ -12,7 +12,7 @@ use Rattle.quiet_run.specs.Turns.{IsAt, TakesTurn}
 
 module _ {A : Type 0} (state : A → ClusterNode) where
   -- the state of an element
-  state_at : (nodes : List A) (n : ℕ) (d : A) → n < length nodes → slice_get (map state nodes) n ≡ Some (state (get_or nodes n d))
+  pub state_at : (nodes : List A) (n : ℕ) (d : A) → n < length nodes → slice_get (map state nodes) n ≡ Some (state (get_or nodes n d))
   state_at [] n d h = absurd (omega arith)
   state_at (x ∷ nodes) zero d h = refl
   state_at (x ∷ nodes) (suc n) d h = state_at nodes n d (omega arith)

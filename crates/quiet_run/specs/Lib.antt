@@ -1,4 +1,6 @@
 pub mod Standing
+pub mod Spelled
+pub mod Causes
 pub mod Turns
 pub mod Limits
 pub mod Runs

@@ -5,6 +5,7 @@ use Rattle.history_frame.specs.declared.events.Event.{Event}
 use Rattle.history_frame.specs.declared.events.Happened.{Happened}
 use Rattle.history_frame.specs.Spelling.{IsHappened, event_size}
 use Rattle.log_base.specs.declared.numbers.NodeId.{NodeId}
+use Rattle.log_base.specs.ClusterShape.{Shape}
 use Rattle.log_base.specs.Shape.{shape}
 use Rattle.node_model.specs.Machine.{ClusterNode}
 use Rattle.serial_schedule.specs.declared.turns.Turn.{Turn}
@@ -12,8 +13,11 @@ use Rattle.serial_schedule.specs.Driven.{next_turn_after, replies_of, scheduled_
 use Rattle.serial_schedule.specs.Keeping.{IsSingle}
 use Rattle.serial_schedule.specs.Scheduling.{Scheduled, given, noted}
 use Rattle.quiet_run.specs.declared.running.Running.{Running}
+use Rattle.shard_replica.specs.Lists.{Medium}
+use Rattle.quiet_run.specs.declared.outcomes.DriveStop.{DriveStop}
+use Rattle.quiet_run.specs.Causes.{HaveCauses}
 use Rattle.quiet_run.specs.Limits.{byte_limit, bytes_of, event_limit, limit_passed}
-use Rattle.quiet_run.specs.Runs.{IsRunSoFar, NoLimitBefore}
+use Rattle.quiet_run.specs.Runs.{IsRunSoFar, IsStoppedWith, NoLimitBefore}
 use Rattle.quiet_run.specs.Standing.{IsJob, Job, job}
 
 -- what it is given
@@ -84,3 +88,11 @@ pub record IsOver (job : Job) (events : List Event) (bytes : ℕ) (replies : Lis
   pub over : next_turn_after job.config job.run job.items events ≡ None
   pub none : limit_passed job events ≡ None
   pub replies_are : replies ≡ replies_of job.config job.run job.items events
+
+-- Whatever was told at first: where the failures of the earlier events have causes, so have those of the later ones.
+abbrev pub CausesGoOn : Shape → List Event → List Event → List (List Medium) → List (List Medium) → Type 0
+CausesGoOn config earlier later old new = (first : List (List Medium)) → HaveCauses config earlier first old → HaveCauses config later first new
+
+-- Whatever was told at first: where the failures of the events have causes, so have those of the run that stopped.
+abbrev pub StopsWith : Job → List Event → List ClusterNode → List (List Medium) → List (List Medium) → DriveStop → Type 0
+StopsWith job events nodes old new stop = (first : List (List Medium)) → HaveCauses job.config events first old → IsStoppedWith job nodes first new stop

@@ -1,6 +1,8 @@
 -- Runs: as far as they came, to their ends, and up to a stop.
 use Rattle.std.specs.Prelude.{◌≡◌, ℕ, ◌<◌, ◌≤◌, List, length, map, take, Some, None, slice_get, slice_index}
+use Rattle.std.specs.List.{AllByRecursion}
 use Rattle.history_frame.specs.declared.events.Event.{Event}
+use Rattle.history_frame.specs.Spelling.{IsEvent}
 use Rattle.node_model.specs.Legal.{IsLegal}
 use Rattle.node_model.specs.Machine.{ClusterNode}
 use Rattle.node_model.specs.NodeState.{node_after}
@@ -9,13 +11,16 @@ use Rattle.serial_schedule.specs.Driven.{IsFollowed}
 use Rattle.quiet_run.specs.declared.outcomes.DriveStop.{DriveStop}
 use Rattle.quiet_run.specs.declared.outcomes.DriveStop.TheVariants.{Limit, Memory}
 use Rattle.core_step.specs.Known.{known_chain, known_count}
+use Rattle.shard_replica.specs.Lists.{Medium}
+use Rattle.quiet_run.specs.Causes.{HaveCauses}
 use Rattle.quiet_run.specs.Limits.{known_by, limit_passed}
 use Rattle.quiet_run.specs.Standing.{Job, StandAfter}
 
--- The events of a run so far: they are legal, they follow the schedule, and the nodes stand after them.
+-- The events of a run so far: they are legal, they follow the schedule, each has a spelling, and the nodes stand after them.
 pub record IsRunSoFar (job : Job) (events : List Event) (nodes : List ClusterNode) : Type 0 where
   pub legal : IsLegal job.config job.run job.kept events
   pub followed : IsFollowed job.config job.run job.items events
+  pub spelled : AllByRecursion IsEvent events
   pub stand : StandAfter job events nodes
 
 -- before the last event no limit was passed
@@ -36,6 +41,11 @@ pub record IsStoppedRun (job : Job) (nodes : List ClusterNode) (stop : DriveStop
   pub events : List Event
   pub so_far : IsRunSoFar job events nodes
   pub stops : StopsAt job events stop
+
+-- A run that stopped, with the causes of the failures that its events show. What is told of the journals was this and is that.
+pub record IsStoppedWith (job : Job) (nodes : List ClusterNode) (old new : List (List Medium)) (stop : DriveStop) : Type 0 where
+  pub run : IsStoppedRun job nodes stop
+  pub causes : HaveCauses job.config run.events old new
 
 -- how many values a node of a cluster knows
 abbrev pub count_in : ClusterNode → ℕ

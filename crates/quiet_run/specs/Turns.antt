@@ -1,8 +1,11 @@
 -- A node among others takes a turn.
-use Rattle.std.specs.Prelude.{◌≡◌, ℕ, ◌≤◌, List, length, Some, slice_get, slice_set}
+use Rattle.std.specs.Prelude.{◌≡◌, ◌≢◌, ℕ, ◌≤◌, List, length, Some, slice_get, slice_set}
 use Rattle.history_frame.specs.declared.events.Happened.{Happened}
 use Rattle.history_frame.specs.declared.inputs.Input.{Input}
+use Rattle.history_frame.specs.declared.inputs.Mark.{Mark}
 use Rattle.node_model.specs.Machine.{ClusterNode, node_meanings}
+use Rattle.shard_replica.specs.Lists.{Medium}
+use Rattle.quiet_run.specs.Causes.{HasCause, journals_at, media_at}
 
 -- there is a node of this number, and the input fits it
 pub record IsAt (nodes : List ClusterNode) (number : ℕ) (input : Input) : Type 0 where
@@ -19,3 +22,10 @@ pub record TakesTurn (number : ℕ) (input : Input) (happened : Happened) (old n
   pub few : length happened.outputs ≤ 255
   pub size : node_meanings.size happened ≤ 2097152
   pub after : new ≡ slice_set old number (node_meanings.after node happened)
+
+-- What is told of the journals of this node goes on with the cause of the mark, and of the others it stays.
+pub record ShowsMark (number : ℕ) (mark : Mark) (nodes : List ClusterNode) (old new : List (List Medium)) : Type 0 where
+  pub node : ClusterNode
+  pub at : slice_get nodes number ≡ Some node
+  pub here : HasCause (journals_at node.config node.number) mark (media_at old number) (media_at new number)
+  pub others : (other : ℕ) → other ≢ number → media_at new other ≡ media_at old other

@@ -4,12 +4,16 @@ ghost use Rattle.std.specs.Prelude.{◌≡◌, ◌<◌, ◌≤◌, [], length, m
 ghost use Rattle.std.specs.List.{AllByRecursion};
 ghost use Rattle.command_frame.specs.Items.{IsItem};
 ghost use Rattle.core_step.specs.Standing.{cluster_node};
+ghost use Rattle.history_frame.specs.Spelling.{IsHistory};
 ghost use Rattle.log_base.specs.Shape.{shape};
 ghost use Rattle.node_model.specs.Legal.{IsLawful};
 ghost use Rattle.node_model.specs.Sound.{IsSound, payloads_on};
+ghost use Rattle.reply_frame.specs.Replies.{HasSpelling};
 ghost use Rattle.serial_schedule.specs.Driven.{IsDriven, replies_of};
-ghost use Rattle.quiet_run.specs.Running.{IsOver, IsUnderWay, job_of};
-ghost use Rattle.quiet_run.specs.Runs.{IsKnownAtMost, IsStoppedRun, IsWithinLimits, KnowsMost};
+ghost use Rattle.quiet_run.specs.Causes.{AllCountOn, BeginWithStarts, HaveCauses, StartsAreClean, node_media};
+ghost use Rattle.quiet_run.specs.Running.{CausesGoOn, IsOver, IsUnderWay, StopsWith, job_of};
+ghost use Rattle.quiet_run.specs.Runs.{IsKnownAtMost, IsStoppedRun, IsStoppedWith, IsWithinLimits, KnowsMost};
+ghost use Rattle.quiet_run.specs.Spelled.{AreKept};
 ghost use Rattle.quiet_run.specs.Standing.{StandAfter, job};
 
 use crate::knowing::first_to_know_most;
@@ -51,6 +55,16 @@ pub fn drive<J: Journal + Drop, P: Places>(
     ensures known { IfOk result (λ driven.
         IsKnownAtMost (job (shape config) run items.now kept.items) driven.history.events driven.known driven.end.0 driven.trim.0) }
     ensures stopped { IfErr result (λ stop. IsStoppedRun (job (shape config) run items.now kept.items) (map (cluster_node J.state) nodes.new.items) stop) }
+    ensures spelled { IfOk result (λ driven. AreKept driven.history.kept → IsHistory driven.history) }
+    ensures replies_spelled { IfOk result (λ driven. AllByRecursion HasSpelling driven.replies) }
+    ensures starts { IfOk result (λ driven. BeginWithStarts (shape config) driven.history.events) }
+    ensures opened { IfOk result (λ driven. StartsAreClean (shape config) driven.history.events
+        (map (node_media J.state J.faults J.keeps_synced J.turns) nodes.old.items) (map (node_media J.state J.faults J.keeps_synced J.turns) nodes.new.items)) }
+    ensures causes { IfOk result (λ driven. HaveCauses (shape config) driven.history.events
+        (map (node_media J.state J.faults J.keeps_synced J.turns) nodes.old.items) (map (node_media J.state J.faults J.keeps_synced J.turns) nodes.new.items)) }
+    ensures counts { AllCountOn (map (node_media J.state J.faults J.keeps_synced J.turns) nodes.old.items) (map (node_media J.state J.faults J.keeps_synced J.turns) nodes.new.items) }
+    ensures stopped_causes { IfErr result (λ stop. IsStoppedWith (job (shape config) run items.now kept.items) (map (cluster_node J.state) nodes.new.items)
+        (map (node_media J.state J.faults J.keeps_synced J.turns) nodes.old.items) (map (node_media J.state J.faults J.keeps_synced J.turns) nodes.new.items) stop) }
 {
     serve(alloc, config, run, items, kept, nodes)
 }
@@ -80,6 +94,16 @@ fn serve<J: Journal + Drop, P: Places>(
     ensures known { IfOk result (λ driven.
         IsKnownAtMost (job (shape config) run items.now kept.items) driven.history.events driven.known driven.end.0 driven.trim.0) }
     ensures stopped { IfErr result (λ stop. IsStoppedRun (job (shape config) run items.now kept.items) (map (cluster_node J.state) nodes.new) stop) }
+    ensures spelled { IfOk result (λ driven. AreKept driven.history.kept → IsHistory driven.history) }
+    ensures replies_spelled { IfOk result (λ driven. AllByRecursion HasSpelling driven.replies) }
+    ensures starts { IfOk result (λ driven. BeginWithStarts (shape config) driven.history.events) }
+    ensures opened { IfOk result (λ driven. StartsAreClean (shape config) driven.history.events
+        (map (node_media J.state J.faults J.keeps_synced J.turns) nodes.old) (map (node_media J.state J.faults J.keeps_synced J.turns) nodes.new)) }
+    ensures causes { IfOk result (λ driven. HaveCauses (shape config) driven.history.events
+        (map (node_media J.state J.faults J.keeps_synced J.turns) nodes.old) (map (node_media J.state J.faults J.keeps_synced J.turns) nodes.new)) }
+    ensures counts { AllCountOn (map (node_media J.state J.faults J.keeps_synced J.turns) nodes.old) (map (node_media J.state J.faults J.keeps_synced J.turns) nodes.new) }
+    ensures stopped_causes { IfErr result (λ stop. IsStoppedWith (job (shape config) run items.now kept.items) (map (cluster_node J.state) nodes.new)
+        (map (node_media J.state J.faults J.keeps_synced J.turns) nodes.old) (map (node_media J.state J.faults J.keeps_synced J.turns) nodes.new) stop) }
 {
     let mut running = begin(alloc, config, run, items, &kept)?;
     run_to_end(&mut running, nodes)?;
@@ -113,6 +137,10 @@ fn run_to_end<J: Journal + Drop, P: Places>(
         (map (cluster_node J.state) nodes.new)) }
     ensures same { OnOk result (job_of running.new ≡ job_of running.old) }
     ensures err { IfErr result (λ stop. IsStoppedRun (job_of running.old) (map (cluster_node J.state) nodes.new) stop) }
+    ensures causes { OnOk result (CausesGoOn (job_of running.old).config running.old.events.items running.new.events.items
+        (map (node_media J.state J.faults J.keeps_synced J.turns) nodes.old) (map (node_media J.state J.faults J.keeps_synced J.turns) nodes.new)) }
+    ensures err_causes { IfErr result (λ stop. StopsWith (job_of running.old) running.old.events.items (map (cluster_node J.state) nodes.new)
+        (map (node_media J.state J.faults J.keeps_synced J.turns) nodes.old) (map (node_media J.state J.faults J.keeps_synced J.turns) nodes.new) stop) }
 {
     'turns: while running.go_on(nodes)? {}
     Ok(())

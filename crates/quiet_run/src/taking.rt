@@ -3,7 +3,8 @@
 ghost use Rattle.std.specs.Prelude.{◌≡◌, ◌+◌, length, map, Ok, true, false, OnOk, OnErr, IfErr};
 ghost use Rattle.core_step.specs.Standing.{cluster_node};
 ghost use Rattle.quiet_run.specs.declared.outcomes.DriveStop.TheVariants.{Memory as Want};
-ghost use Rattle.quiet_run.specs.Running.{HasGoneOn, IsOnItsWay, IsOver, IsTurnDue, job_of, scheduled_in};
+ghost use Rattle.quiet_run.specs.Causes.{node_media};
+ghost use Rattle.quiet_run.specs.Running.{CausesGoOn, HasGoneOn, IsOnItsWay, IsOver, IsTurnDue, StopsWith, job_of, scheduled_in};
 ghost use Rattle.quiet_run.specs.Runs.{IsStoppedRun};
 
 use crate::limits::{is_one_full, limit_at};
@@ -28,6 +29,10 @@ impl<'a> Running<'a> {
         ensures over { result ≡ Ok false → IsOver (job_of self.new) self.new.events.items self.new.bytes self.new.schedule.replies (map (cluster_node J.state) nodes.new) }
         ensures same { result ≡ Ok false → job_of self.new ≡ job_of self.old }
         ensures err { IfErr result (λ stop. IsStoppedRun (job_of self.old) (map (cluster_node J.state) nodes.new) stop) }
+        ensures causes { OnOk result (CausesGoOn (job_of self.old).config self.old.events.items self.new.events.items
+            (map (node_media J.state J.faults J.keeps_synced J.turns) nodes.old) (map (node_media J.state J.faults J.keeps_synced J.turns) nodes.new)) }
+        ensures err_causes { IfErr result (λ stop. StopsWith (job_of self.old) self.old.events.items (map (cluster_node J.state) nodes.new)
+            (map (node_media J.state J.faults J.keeps_synced J.turns) nodes.old) (map (node_media J.state J.faults J.keeps_synced J.turns) nodes.new) stop) }
     {
         let next = self.schedule.next()?;
         let full = is_one_full(nodes);
@@ -53,6 +58,10 @@ impl<'a> Running<'a> {
         requires due { IsTurnDue (job_of self.old) self.old.events.items self.old.schedule turn }
         ensures ok { OnOk result (HasGoneOn self.old self.new (map (cluster_node J.state) nodes.new)) }
         ensures err { OnErr result (IsStoppedRun (job_of self.old) (map (cluster_node J.state) nodes.new) Want) }
+        ensures causes { OnOk result (CausesGoOn (job_of self.old).config self.old.events.items self.new.events.items
+            (map (node_media J.state J.faults J.keeps_synced J.turns) nodes.old) (map (node_media J.state J.faults J.keeps_synced J.turns) nodes.new)) }
+        ensures err_causes { OnErr result (StopsWith (job_of self.old) self.old.events.items (map (cluster_node J.state) nodes.new)
+            (map (node_media J.state J.faults J.keeps_synced J.turns) nodes.old) (map (node_media J.state J.faults J.keeps_synced J.turns) nodes.new) Want) }
     {
         let mut out = Outbox::new(self.alloc);
         let happened = take_turn(nodes, usize::from(turn.node.0), turn.input, &mut out)?;

@@ -8,5 +8,7 @@ pub mod Permitting
 pub mod Submitting
 pub mod Head
 pub mod Singles
+pub mod Starting
+pub mod Replying
 pub mod RunLaws
 pub mod Runs

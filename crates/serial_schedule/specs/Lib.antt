@@ -6,3 +6,4 @@ pub mod Noting
 pub mod Driven
 pub mod Calling
 pub mod Worked
+pub mod Starts

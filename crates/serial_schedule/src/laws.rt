@@ -1,20 +1,23 @@
 //! Laws of the schedule. Each function does nothing: its contract is the law.
 
-ghost use Rattle.std.specs.Prelude.{◌≡◌, ℕ, ◌≤◌, List, [], ◌∷◌, ◌++◌, length, slice_get};
+ghost use Rattle.std.specs.Prelude.{◌≡◌, ◌≢◌, ℕ, ◌<◌, ◌≤◌, List, [], ◌∷◌, ◌++◌, length, Some, slice_get};
 ghost use Rattle.std.specs.List.{AllByRecursion};
 ghost use Rattle.log_base.specs.ClusterShape.{Shape};
 ghost use Rattle.command_frame.specs.declared.items.Item.{Item};
 ghost use Rattle.reply_frame.specs.declared.replies.Reply.{Settled};
 ghost use Rattle.history_frame.specs.declared.events.Event.{Event};
 ghost use Rattle.history_frame.specs.declared.events.Happened.{Happened};
+ghost use Rattle.history_frame.specs.declared.inputs.Input.TheVariants.{Restart};
 ghost use Rattle.node_model.specs.Histories.{IsDelivered, IsSent};
 ghost use Rattle.node_model.specs.Legal.{AgreesWith, IsOfRun};
 ghost use Rattle.node_model.specs.NodeState.{IsRow, NodeState};
+ghost use Rattle.node_table.specs.Numbering.{nodes_of};
 ghost use Rattle.serial_schedule.specs.declared.turns.Turn.{Turn};
 ghost use Rattle.serial_schedule.specs.Calling.{IsAllowed, IsNoLetter, IsRun};
 ghost use Rattle.serial_schedule.specs.Driven.{IsDriven, IsFollowed, after_event, next_turn_after, replies_of, scheduled_after, turn_of};
 ghost use Rattle.serial_schedule.specs.Keeping.{IsSingle};
 ghost use Rattle.serial_schedule.specs.Scheduling.{Waiting};
+ghost use Rattle.serial_schedule.specs.Starts.{IsStartOf};
 ghost use Rattle.serial_schedule.specs.Worked.{addition, confirmed, decided, opened, opening_turns, silent, smallest, two_by_two};
 
 /// Runs worked by hand follow the schedule: an opening, and the addition of a shard in the smallest cluster.
@@ -69,4 +72,15 @@ pub fn each_item_is_answered()
         → length (replies_of config run items events) ≤ length items }
     ensures all { (config : Shape) (run : ℕ) (items : List Item) (events : List Event) → next_turn_after config run items events ≡ None
         → length (replies_of config run items events) ≡ length items }
+{}
+
+/// A run begins, as far as it goes, with a start of each node, in order of their numbers. When it is over all of
+/// them were started, and none is started again.
+pub fn nodes_are_started_first()
+    ensures first { (config : Shape) (run : ℕ) (items : List Item) (events : List Event) (number : ℕ) (event : Event)
+        → IsFollowed config run items events → number < nodes_of config → slice_get events number ≡ Some event → IsStartOf number event }
+    ensures later { (config : Shape) (run : ℕ) (items : List Item) (events : List Event) (number : ℕ) (event : Event)
+        → IsFollowed config run items events → nodes_of config ≤ number → slice_get events number ≡ Some event → event.happened.input ≢ Restart }
+    ensures all { (config : Shape) (run : ℕ) (items : List Item) (events : List Event) → IsDriven config run items events
+        → nodes_of config ≤ length events }
 {}

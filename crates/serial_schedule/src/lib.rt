@@ -20,7 +20,7 @@ mod turns;
 
 pub use laws::{
     answers_are_single, each_item_is_answered, inputs_are_allowed, letters_were_sent,
-    one_event_more, submissions_agree, worked_runs,
+    nodes_are_started_first, one_event_more, submissions_agree, worked_runs,
 };
 pub use schedule::Schedule;
 pub use turns::Turn;

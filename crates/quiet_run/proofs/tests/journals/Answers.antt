@@ -1,4 +1,4 @@
-use Rattle.std.proofs.Common.{◌≡◌, ◌+◌, ◌∷◌, [], ◌++◌, ℕ, List, length, length-append, sym, ap, ◌∙◌, subst}
+use Rattle.std.proofs.Common.{◌≡◌, ◌+◌, ◌∷◌, [], ℕ, length, length-append, sym, ap, ◌∙◌, subst}
 use Rattle.quiet_run.specs.Tested.{AreEmpty}
 use Rattle.quiet_run.proofs.Empty.{empty_push}
 use Rattle.quiet_run.proofs.tests.journals.Goals as goal

@@ -1,0 +1,54 @@
+-- The history of a run and its replies have spellings.
+use Rattle.std.proofs.Common.{◌≤◌, ℕ, List, [], ◌∷◌, ◌++◌, length, subst, arith}
+use Rattle.std.specs.List.{AllByRecursion, flat_map}
+use Rattle.std.proofs.lemmas.List.{length-append}
+use Rattle.command_frame.specs.declared.items.Item.{Item}
+use Rattle.reply_frame.specs.Replies.{HasSpelling, reply_bytes}
+use Rattle.history_frame.specs.declared.events.Event.{Event}
+use Rattle.history_frame.specs.declared.events.Happened.{Happened}
+use Rattle.history_frame.specs.declared.events.History.{History}
+use Rattle.history_frame.specs.Spelling.{InPlace, IsEvent, IsHappened, IsHistory, event_size, input_spelling, mark_byte, sent_spelling}
+use Rattle.log_base.specs.ClusterShape.{Shape}
+use Rattle.log_base.specs.Shape.{shape}
+use Rattle.node_model.specs.Legal.{AreNext, IsLawful}
+use Rattle.node_model.specs.NodeState.{KeptLists}
+use Rattle.node_model.specs.Sound.{payloads_on}
+use Rattle.serial_schedule.specs.Driven.{replies_of}
+use Rattle.serial_schedule.proofs.Replying.{replies-good}
+use Rattle.quiet_run.specs.Spelled.{AreKept}
+
+-- so has the reply of an event that has one
+reply_spelled : (happened : Happened) → IsHappened happened → HasSpelling happened.reply
+reply_spelled happened h =
+    let size : event_size happened ≤ 2097156 = h.size in
+    let behind = flat_map sent_spelling happened.outputs ++ reply_bytes happened.reply in
+    let all = length-append (input_spelling happened.input) (mark_byte happened.mark ∷ (length happened.outputs ∷ behind)) in
+    let last = length-append (flat_map sent_spelling happened.outputs) (reply_bytes happened.reply) in
+    (h.reply, omega (arith, size, all, last))
+
+answers_spelled : (events : List Event) → AllByRecursion IsEvent events → AllByRecursion (λ (e : Event). HasSpelling e.happened.reply) events
+answers_spelled [] h = tt
+answers_spelled (event ∷ events) h = (reply_spelled event.happened h.0, answers_spelled events h.1)
+
+pub all_replies_spelled : (config : Shape) (run : ℕ) (items : List Item) (events : List Event) → AllByRecursion IsEvent events
+    → AllByRecursion HasSpelling (replies_of config run items events)
+all_replies_spelled config run items events h = replies-good HasSpelling (tt, omega arith) config run items events (answers_spelled events h)
+
+-- the events of a legal history stand at their places
+in_place : (config : Shape) (run : ℕ) (kept : KeptLists) (before events : List Event) → AreNext config run kept before events → InPlace (length before) events
+in_place config run kept before [] h = tt
+in_place config run kept before (event ∷ events) h = (
+  h.0.place,
+  subst (λ (n : ℕ). InPlace n events) (length-append before (event ∷ [])) (in_place config run kept (before ++ event ∷ []) events h.1),
+)
+
+pub history_is_spelled : (history : History) → 1 ≤ history.run → history.run ≤ 1000000 → IsLawful history → AllByRecursion IsEvent history.events
+    → AreKept history.kept → IsHistory history
+history_is_spelled history some few lawful events kept = record {
+  some_run = some;
+  run = few;
+  disks = kept.disks;
+  kept = kept.fit;
+  places = in_place (shape history.config) history.run (payloads_on history.kept) [] history.events lawful.follow;
+  events = events;
+}
