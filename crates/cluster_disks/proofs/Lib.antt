@@ -1,0 +1,12 @@
+pub mod Beginning
+pub mod Built
+pub mod Closing
+pub mod Copying
+pub mod Found
+pub mod HandedBack
+pub mod KeptLists
+pub mod Lending
+pub mod Nodes
+pub mod Opening
+pub mod Sources
+pub mod Started
