@@ -1,5 +1,5 @@
 #!/usr/bin/env python3
-"""Measures the built program on inputs of growing size, in turns with `cat` of the same bytes."""
+"""Measures the built program on generated items, beside `sha256sum` of what it writes, in the same run."""
 
 import os
 import subprocess
@@ -9,35 +9,43 @@ import time
 
 TOP = os.path.dirname(os.path.dirname(os.path.abspath(__file__)))
 CRATE = os.path.join(TOP, "crates", "scalog")
-SIZES = (1_024, 4_096, 15_000)
-ROUNDS = 9
-REPLICAS, SHARDS, APPENDS = 3, 4, 2_000
+COUNTS = (200, 2_000)
+SEED = 7
+ROUNDS = 5
+REPLICAS, SHARDS = 2, 2
+EVENT = 0x62
+WIDE = (3, 4, 2_000)
 
 
 def frame(kind, body):
     return (len(body) + 1).to_bytes(4, "big") + bytes([kind]) + body
 
 
-def items(count):
-    """An addition, then appends of 100 bytes with a read behind every fourth."""
-    out = [frame(5, bytes([0, 0, 0]))]
-    appended = 0
-    for i in range(1, count):
-        lane = bytes([i % 64])
-        if i % 5 == 4:
-            out.append(frame(2, lane + bytes([0, 0, 0]) + (appended // 2).to_bytes(8, "big")))
+def target(lane, shard, replica):
+    return bytes([lane]) + shard.to_bytes(2, "big") + bytes([replica])
+
+
+def generated(count):
+    """An addition of each shard, then made items. A subscription is read at its first position, until they are served."""
+    out = [frame(5, bytes([0]) + shard.to_bytes(2, "big")) for shard in range(SHARDS)]
+    x = SEED
+    for i in range(count):
+        x = (x * 6364136223846793005 + 1442695040888963407) % 2**64
+        y = x >> 33
+        where = target(y // 8 % 4, y // 32 % SHARDS, y // 256 % REPLICAS)
+        if y % 8 < 6:
+            record = bytes(97 + (i + j) % 26 for j in range(1 + y // 1024 % 24))
+            out.append(frame(1, where + record))
         else:
-            out.append(frame(1, lane + bytes([0, 0, 0]) + bytes([97 + i % 26]) * 100))
-            appended += 1
+            out.append(frame(2, where + (y // 8 % (i + 1)).to_bytes(8, "big")))
     return b"".join(out)
 
 
-def cluster_items():
+def appends(replicas, shards, count):
     """An addition of each shard, then appends of 100 bytes to each replica of each shard in turn."""
-    out = [frame(5, bytes([0]) + shard.to_bytes(2, "big")) for shard in range(SHARDS)]
-    for i in range(APPENDS):
-        shard, replica = i % SHARDS, i // SHARDS % REPLICAS
-        out.append(frame(1, bytes([i % 64]) + shard.to_bytes(2, "big") + bytes([replica]) + bytes([97 + i % 26]) * 100))
+    out = [frame(5, bytes([0]) + shard.to_bytes(2, "big")) for shard in range(shards)]
+    for i in range(count):
+        out.append(frame(1, target(i % 64, i % shards, i // shards % replicas) + bytes([97 + i % 26]) * 100))
     return b"".join(out)
 
 
@@ -51,9 +59,9 @@ def program():
     return path
 
 
-def timed(command, path):
-    """The wall time of a command on a file, and the peak memory of the child in kilobytes."""
-    with open(path, "rb") as source, open(os.devnull, "wb") as sink:
+def timed(command, source_path, sink_path):
+    """The wall time of a command from one file to another, and the peak memory of the child in kilobytes."""
+    with open(source_path, "rb") as source, open(sink_path, "wb") as sink:
         start = time.perf_counter()
         child = subprocess.Popen(command, stdin=source, stdout=sink)
         _, status, usage = os.wait4(child.pid, 0)
@@ -63,35 +71,49 @@ def timed(command, path):
     return wall, usage.ru_maxrss
 
 
+def events_in(path):
+    """How many frames of events a file has."""
+    with open(path, "rb") as source:
+        data = source.read()
+    at, events = 0, 0
+    while at < len(data):
+        events += data[at + 4] == EVENT
+        at += 4 + int.from_bytes(data[at : at + 4], "big")
+    return events
+
+
+def measured(command, folder, items):
+    """Events, bytes, and the best times of the program and of sha256sum over its output."""
+    source, output = os.path.join(folder, "items"), os.path.join(folder, "output")
+    with open(source, "wb") as out:
+        out.write(items)
+    best, best_sum, peak = float("inf"), float("inf"), 0
+    for _ in range(ROUNDS):
+        wall, memory = timed(command, source, output)
+        wall_sum, _ = timed(["sha256sum"], output, os.devnull)
+        best, best_sum, peak = min(best, wall), min(best_sum, wall_sum), max(peak, memory)
+    return events_in(output), os.path.getsize(output), best, best_sum, peak
+
+
 def main():
-    words = ["run", "--replicas", "1", "--shards", "1"]
-    scalog = [program()] + words
-    per_item = []
-    print(f"{'items':>7} {'bytes':>10} {'items/s':>10} {'us/item':>9} {'peak KB':>8} {'x cat':>7}")
+    scalog = program()
+    per_event = []
+    print(f"{'items':>7} {'events':>8} {'bytes':>10} {'events/s':>10} {'MB/s':>7} {'us/event':>9} {'peak KB':>8} {'x sha256sum':>12}")
     with tempfile.TemporaryDirectory() as folder:
-        for count in SIZES:
-            path = os.path.join(folder, str(count))
-            with open(path, "wb") as out:
-                out.write(items(count))
-            best, best_cat, peak = float("inf"), float("inf"), 0
-            for _ in range(ROUNDS):
-                wall, memory = timed(scalog, path)
-                wall_cat, _ = timed(["cat"], path)
-                best, best_cat, peak = min(best, wall), min(best_cat, wall_cat), max(peak, memory)
-            per_item.append(best / count)
+        for count in COUNTS:
+            events, size, best, best_sum, peak = measured([scalog, "run"], folder, generated(count))
+            per_event.append(best / events)
             print(
-                f"{count:>7} {os.path.getsize(path):>10} {count / best:>10.0f} {best / count * 1e6:>9.2f}"
-                f" {peak:>8} {best / best_cat:>7.1f}"
+                f"{count:>7} {events:>8} {size:>10} {events / best:>10.0f} {size / best / 1e6:>7.2f}"
+                f" {best / events * 1e6:>9.2f} {peak:>8} {best / best_sum:>12.1f}"
             )
-        path = os.path.join(folder, "cluster")
-        with open(path, "wb") as out:
-            out.write(cluster_items())
-        shape = ["run", "--replicas", str(REPLICAS), "--shards", str(SHARDS)]
-        wall, memory = min(timed(scalog[:1] + shape, path) for _ in range(ROUNDS))
-    print(f"time per item, {SIZES[-1]} items against {SIZES[0]}: {per_item[-1] / per_item[0]:.2f}")
+        replicas, shards, count = WIDE
+        words = ["run", "--replicas", str(replicas), "--shards", str(shards)]
+        events, size, best, _, peak = measured([scalog] + words, folder, appends(replicas, shards, count // 10))
+    print(f"time per event, {COUNTS[-1]} items against {COUNTS[0]}: {per_event[-1] / per_event[0]:.2f}")
     print(
-        f"{APPENDS} appends on {REPLICAS} replicas of {SHARDS} shards: {wall:.3f} s,"
-        f" {wall / APPENDS * 1e6:.2f} us each, peak {memory} KB"
+        f"{count // 10} appends on {replicas} replicas of {shards} shards: {best:.3f} s,"
+        f" {best / events * 1e6:.2f} us an event, peak {peak} KB"
     )
 
 

@@ -1,8 +1,9 @@
 #!/usr/bin/env python3
-"""Items as text to frames, and reply frames to text.
+"""Items as text to frames, and the frames of replies and histories to text.
 
-    frames.py items   reads a line of text for each item and writes their frames
-    frames.py show    reads reply frames and writes a line for each
+    frames.py items     reads a line of text for each item and writes their frames
+    frames.py show      reads what the program writes, and writes a line for each frame
+    frames.py replies   does so for the frames of replies alone
 
 An item is one of
 
@@ -17,7 +18,10 @@ with `lane N:` before it where the lane is not 0. A record is text in quotes, wi
 import re
 import sys
 
+from histories import History, Unreadable
+
 REPLY = 0x40
+HEAD, KEPT, EVENT, VERDICT, FAULT = 0x60, 0x61, 0x62, 0x63, 0x7F
 RECORD_LIMIT = 65_535
 FRAME_LIMIT = 2_097_152
 
@@ -216,8 +220,29 @@ def reply_text(kind, body):
     return f"lane {lane}  {words}"
 
 
-def reply_texts(data):
-    """The text of each reply's frame, from the front. A fault names the offset of its frame."""
+def history_shower():
+    """What shows the frames of one history, by their kinds."""
+    history = History(Bytes, entry_text, draw_text, record_text, lambda data: reply_words(data, LAST_NODE_ANSWER))
+    return {HEAD: history.head, KEPT: history.kept, EVENT: history.event, VERDICT: history.verdict, FAULT: history.fault}
+
+
+def frame_text(shower, kind, body):
+    """The text of a frame that the program writes, by its kind and body."""
+    if kind not in shower:
+        return reply_text(kind, body)
+    data = Bytes(body)
+    try:
+        words = shower[kind](data)
+    except Unreadable as why:
+        raise Refused(str(why)) from None
+    if data.at < len(body):
+        raise Refused(f"a frame with no bytes left over: {len(body) - data.at} are")
+    return words
+
+
+def frame_texts(data):
+    """The kind and the text of each frame, from the front. A fault names the offset of its frame."""
+    shower = history_shower()
     at = 0
     while at < len(data):
         length = int.from_bytes(data[at : at + 4], "big")
@@ -228,7 +253,8 @@ def reply_texts(data):
                 raise Refused(f"a frame of 1 to {FRAME_LIMIT:,} bytes, not {length:,}")
             if len(data) - at - 4 < length:
                 raise Refused("a frame, which the input cuts short")
-            yield reply_text(data[at + 4], data[at + 5 : at + 4 + length])
+            kind = data[at + 4]
+            yield kind, frame_text(shower, kind, data[at + 5 : at + 4 + length])
         except Refused as why:
             raise Refused(f"at offset {at}: expected {why}") from None
         at += 4 + length
@@ -250,11 +276,17 @@ def items(source, sink):
 
 
 def show(source, sink):
-    for text in reply_texts(source.buffer.read()):
+    for _, text in frame_texts(source.buffer.read()):
         print(text, file=sink)
 
 
-COMMANDS = {"items": items, "show": show}
+def replies(source, sink):
+    for kind, text in frame_texts(source.buffer.read()):
+        if kind == REPLY:
+            print(text, file=sink)
+
+
+COMMANDS = {"items": items, "show": show, "replies": replies}
 
 
 def main(words):

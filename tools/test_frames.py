@@ -1,5 +1,5 @@
 #!/usr/bin/env python3
-"""Tests of frames.py: every item and reply both ways, bad lines, and frames that are cut short."""
+"""Tests of frames.py: every item and reply both ways, the frames of histories, bad lines, and frames that are cut short."""
 
 import os
 import re
@@ -61,6 +61,40 @@ REPLIES = [
     ("00000003 40 00 18", "lane 0  NothingKept"),
     ("00000003 40 00 19", "lane 0  Done"),
     ("00000007 40 00 1a 00000009", "lane 0  Spent  used 9"),
+]
+
+# The frames of one output in order, and their texts.
+HISTORY = [
+    ("00000003 40 00 19", "lane 0  Done"),
+    ("00000009 60 02 02 03 01 00000001", "history  replicas 2  shards 2  orderers 3  gatherers 1  run 1"),
+    ("00000015 61 00000000 01 0000 0000000100000000 00000001 61", 'kept  disk 0  client 0 number 1.0  "a"'),
+    ("0000000e 61 00000028 02 0000000000000003", "kept  disk 40  promise 3"),
+    ("00000015 61 00000028 03 0000000000000003 00000000 02 0000", "kept  disk 40  vote 3 slot 0 Add 0"),
+    ("00000007 62 0000 06 02 00 00", "0  node 0  Restart  OpenedWithout"),
+    (
+        "0000001a 62 0005 04 00 01 0006 0000000d 05 0000000000000003 00000000 00",
+        "1  node 5  Lead  Done  -> 6: Prepare{3, from 0}",
+    ),
+    (
+        "00000037 62 0006 01 00000001 00 00 01 0005 00000025 06 0000000000000003 00000000 01 01 00000000 0000000000000002 01 02 00000001 00000000 00",
+        "2  node 6  Deliver 1.0 Prepare{3, from 0}  Done  -> 5: Promised{3, from 0, who 1, [slot 0 ballot 2 Cut [1, 0]]}",
+    ),
+    ("00000012 62 0000 02 03 0000 0000000000000000 00 00 0d", "3  node 0  Read{client 0, @0}  Done  = Down"),
+    (
+        "00000017 62 0000 02 01 0000 0000000100000000 00000001 61 01 00 0c",
+        '4  node 0  Submit{client 0, number 1.0, "a"}  Halted  = Halted',
+    ),
+    ("00000005 63 00000076", "lawful  events 118"),
+    ("0000000f 7f 06 01 00000000 0000000000000000", "fault  status 6  cause 1  which 0  at 0"),
+]
+
+# Bytes that are no frames of a history, and a word of the fault.
+BAD_HISTORIES = [
+    ("00000007 62 0000 07 02 00 00", "a kind up to 6"),
+    ("00000007 62 0000 06 05 00 00", "a mark up to 4"),
+    ("00000006 62 0000 06 02 00", "end before"),
+    ("00000008 62 0000 06 02 00 00 00", "left over"),
+    ("0000000e 61 00000028 04 0000000000000003", "a kind up to 3"),
 ]
 
 # A line that is no item, and a word of what was expected.
@@ -166,7 +200,19 @@ def test_replies_are_shown():
     for want, text in REPLIES:
         frame = reply_frame(text)
         assert frame == bytes.fromhex(want), text
-        assert list(frames.reply_texts(frame)) == [text], text
+        assert list(frames.frame_texts(frame)) == [(frames.REPLY, text)], text
+
+
+def test_histories_are_shown():
+    whole = bytes.fromhex("".join(frame for frame, _ in HISTORY))
+    done = run("show", whole)
+    assert done.returncode == 0, done.stderr
+    assert done.stdout.decode().splitlines() == [text for _, text in HISTORY]
+    alone = run("replies", whole)
+    assert (alone.returncode, alone.stdout.decode()) == (0, "lane 0  Done\n")
+    for data, word in BAD_HISTORIES:
+        done = run("show", bytes.fromhex(data))
+        assert done.returncode == 1 and word in done.stderr.decode(), (data, done.stderr)
 
 
 def test_bad_lines_are_refused():
@@ -188,7 +234,7 @@ def test_bad_frames_are_told():
         starts.add(max(starts) + len(bytes.fromhex(frame)))
     for end in range(len(whole)):
         try:
-            count = len(list(frames.reply_texts(whole[:end])))
+            count = len(list(frames.frame_texts(whole[:end])))
         except frames.Refused:
             count = None
         assert (count is not None) == (end in starts), f"cut at {end}"

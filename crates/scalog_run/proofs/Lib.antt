@@ -1,10 +1,8 @@
-pub mod Closing
-pub mod Completion
-pub mod Growing
-pub mod Knowing
-pub mod Lending
-pub mod Nodes
+pub mod Causes
+pub mod Empty
+pub mod Frames
+pub mod Later
+pub mod Left
 pub mod OneReading
-pub mod Opening
-pub mod Served
 pub mod SoFar
+pub mod Whole

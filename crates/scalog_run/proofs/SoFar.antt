@@ -1,11 +1,11 @@
 -- One item after another is read, and then all are.
-use Rattle.std.proofs.Common.{◌≡◌, ℕ, ◌+◌, ◌≤◌, List, [], ◌∷◌, ◌++◌, length, Option, Some, None, Err, refl, sym, ap, ◌∙◌, subst, append_assoc, append-nil, arith}
+use Rattle.std.proofs.Common.{◌≡◌, ℕ, ◌+◌, ◌≤◌, List, [], ◌∷◌, ◌++◌, length, length-append, Option, Some, None, Err, refl, sym, ap, ◌∙◌, subst, append_assoc, append-nil, arith}
 use Rattle.std.proofs.lemmas.Bool.Decides.{nat_tests}
 use Rattle.std.specs.Io.KnownBytes.{Consumes, IsAtEnd}
 use Rattle.std.proofs.KnownBytes.{Consumes-trans, Consumes-nil}
 use Rattle.std.specs.List.{flat_map, AllByRecursion}
 use Rattle.log_base.specs.ClusterShape.{Shape}
-use Rattle.log_base.specs.Outside.{unread}
+use Rattle.log_base.specs.Outside.{TakesOn, unread}
 use Rattle.command_frame.specs.declared.items.Item.{Item}
 use Rattle.reply_frame.specs.declared.faults.ItemFault.{ItemFault}
 use Rattle.reply_frame.specs.declared.faults.ItemFault.TheVariants.{Bad, Read, Many, Memory}
@@ -20,6 +20,7 @@ pub record SoFar (shape : Shape) (input : Option (List ℕ)) (now : Standing) : 
   pub used : Consumes input now.unread (flat_map item_spelling now.items)
   pub counts : now.counts ≡ counts_of now.items
   pub within : passed_limit now.counts ≡ None
+  pub place : now.place ≡ length (flat_map item_spelling now.items)
 
 -- ---- one item more at the end
 
@@ -41,13 +42,14 @@ counts-push counts (first ∷ items) item = counts-push (counted counts first) i
 
 -- nothing is read yet
 pub none_so_far : (shape : Shape) (input : Option (List ℕ)) (now : Standing)
-    → now.unread ≡ input → now.counts ≡ none_yet → now.items ≡ [] → SoFar shape input now
-none_so_far shape input now unread counts items = record {
+    → now.unread ≡ input → now.counts ≡ none_yet → now.items ≡ [] → now.place ≡ 0 → SoFar shape input now
+none_so_far shape input now unread counts items place = record {
   each = subst (AllByRecursion (IsItem shape)) (sym items) tt;
   used = subst (λ (l : List Item). Consumes input now.unread (flat_map item_spelling l)) (sym items)
       (subst (λ (left : Option (List ℕ)). Consumes input left []) (sym unread) (Consumes-nil input));
   counts = counts ∙ ap counts_of (sym items);
   within = subst (λ (c : Counts). passed_limit c ≡ None) (sym counts) refl;
+  place = place ∙ ap (λ (l : List Item). length (flat_map item_spelling l)) (sym items);
 }
 
 -- one item more is read
@@ -63,6 +65,9 @@ goes_on shape config input old new same so_far takes =
           (Consumes-trans input old.unread new.unread (flat_map item_spelling old.items) (item_spelling item) so_far.used takes.used));
       counts = takes.counts ∙ ap (λ (c : Counts). counted c item) so_far.counts ∙ sym (counts-push none_yet old.items item) ∙ ap counts_of all;
       within = takes.within;
+      place = takes.place ∙ ap (λ (n : ℕ). n + length (item_spelling item)) so_far.place
+          ∙ sym (length-append (flat_map item_spelling old.items) (item_spelling item))
+          ∙ ap (λ (l : List ℕ). length l) (sym (spellings-push old.items item)) ∙ ap (λ (l : List Item). length (flat_map item_spelling l)) all;
     }
 
 -- each item is counted
@@ -124,12 +129,13 @@ all_read shape input old new pending left e so_far over =
     })
 
 -- no item stands there
-pub bad_place : (shape : Shape) (input : Option (List ℕ)) (now : Standing) → SoFar shape input now → NoItem shape now.unread
-    → (items : List Item) × ReadsAs shape input items BadPlace
-bad_place shape input now so_far none = (
+pub bad_place : (shape : Shape) (input : Option (List ℕ)) (now : Standing) (at : ℕ) → SoFar shape input now → NoItem shape now.unread → at ≡ now.place
+    → (items : List Item) × ReadsAs shape input items BadPlace × (at ≡ length (flat_map item_spelling items))
+bad_place shape input now at so_far none here = (
   now.items,
   ends_so shape input now.unread now.items BadPlace so_far.used so_far.each (within_counts shape input now so_far)
       (λ rest e. subst (NoItem shape) e none),
+  here ∙ so_far.place,
 )
 
 -- an item stands there that passes a limit
@@ -148,11 +154,12 @@ too_many shape input now left cause item so_far is used passed =
         (item, more, is, sym same ∙ used, subst (λ (c : Counts). passed_limit (counted c item) ≡ Some cause) so_far.counts passed)
 
 -- a step was refused
-pub refused : (shape config : Shape) (input : Option (List ℕ)) (old new : Standing) (rose_now rose : Type 0) (fault : ItemFault)
-    → config ≡ shape → (rose_now → rose) → SoFar shape input old → Steps config old new rose_now (Err fault) → Refuses shape input rose fault
-refused shape config input old new rose_now rose (Bad at) same_config risen so_far step =
-    bad_place shape input old so_far (subst (λ (s : Shape). NoItem s old.unread) same_config step)
-refused shape config input old new rose_now rose (Read at) same_config risen so_far step = risen step
-refused shape config input old new rose_now rose (Many cause) same_config risen so_far step =
+pub refused : (shape config : Shape) (input left : Option (List ℕ)) (old new : Standing) (rose_now rose : Type 0) (fault : ItemFault)
+    → config ≡ shape → (rose_now → rose) → SoFar shape input old → TakesOn 0 new.taken input left → Steps config old new rose_now (Err fault) → Refuses shape input left rose fault
+refused shape config input left old new rose_now rose (Bad at) same_config risen so_far taken step =
+    bad_place shape input old at so_far (subst (λ (s : Shape). NoItem s old.unread) same_config step.0) step.1
+refused shape config input left old new rose_now rose (Read at) same_config risen so_far taken step =
+    (risen step.0, subst (λ (n : ℕ). TakesOn 0 n input left) (sym step.1) taken)
+refused shape config input left old new rose_now rose (Many cause) same_config risen so_far taken step =
     too_many shape input old new.unread cause step.0 so_far (subst (λ (s : Shape). IsItem s step.0) same_config step.1) step.2 step.3
-refused shape config input old new rose_now rose Memory same_config risen so_far step = tt
+refused shape config input left old new rose_now rose Memory same_config risen so_far taken step = tt

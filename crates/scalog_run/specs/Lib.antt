@@ -1,7 +1,8 @@
+pub mod Causes
+pub mod Faults
+pub mod Histories
 pub mod Input
-pub mod Kept
-pub mod Lent
-pub mod Opened
+pub mod Output
 pub mod Run
 pub mod Steps
 pub mod Words

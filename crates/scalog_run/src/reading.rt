@@ -1,7 +1,7 @@
 //! Reading the items of a source, one after another.
 
 ghost use Rattle.std.specs.Prelude.{◌≡◌, ◌≤◌, length, None, IfErr, IfOk, OnOk};
-ghost use Rattle.log_base.specs.Outside.{Rose, unread};
+ghost use Rattle.log_base.specs.Outside.{Rose, TakesOn, unread};
 ghost use Rattle.log_base.specs.Shape.{shape};
 ghost use Rattle.command_frame.specs.Items.{passed_limit};
 ghost use Rattle.scalog_run.specs.Steps.{IsRead, Refuses, Steps};
@@ -28,7 +28,7 @@ pub fn read_items<S: Source>(
     ensures read { IfOk result (λ items. IsRead (shape config) (S.left source.old) (S.left source.new) items.items) }
     ensures few { IfOk result (λ items. length items.items ≤ 65536) }
     ensures refused { IfErr result
-        (Refuses (shape config) (S.left source.old) (Rose (S.faults source.old) (S.faults source.new))) }
+        (Refuses (shape config) (S.left source.old) (S.left source.new) (Rose (S.faults source.old) (S.faults source.new))) }
     ensures later { S.faults source.old ≤ S.faults source.new }
 {
     let mut reader = ItemReader::new(alloc, config);
@@ -51,11 +51,12 @@ fn read_one<S: Source>(
     requires fresh { reader.old.fault ≡ None }
     requires limits { passed_limit reader.old.counts ≡ None }
     ensures steps { Steps reader.old.config
-        (record { unread = unread reader.old.pending (S.left source.old); counts = reader.old.counts; items = items.old.items })
-        (record { unread = unread reader.new.pending (S.left source.new); counts = reader.new.counts; items = items.new.items })
+        (record { unread = unread reader.old.pending (S.left source.old); counts = reader.old.counts; items = items.old.items; place = reader.old.offset; taken = reader.old.taken })
+        (record { unread = unread reader.new.pending (S.left source.new); counts = reader.new.counts; items = items.new.items; place = reader.new.offset; taken = reader.new.taken })
         (Rose (S.faults source.old) (S.faults source.new)) result }
     ensures fresh { OnOk result (reader.new.fault ≡ None) }
     ensures config { reader.new.config ≡ reader.old.config }
+    ensures taken { TakesOn reader.old.taken reader.new.taken (S.left source.old) (S.left source.new) }
     ensures later { S.faults source.old ≤ S.faults source.new }
 {
     let item = match reader.next(source)? {

@@ -1,6 +1,6 @@
 //! The top calls.
 
-ghost use Rattle.std.specs.Prelude.{◌≡◌, ℕ, ◌≤◌, ◌↔◌, List, None, Some, IfSome, false, map, string_bytes};
+ghost use Rattle.std.specs.Prelude.{◌≡◌, ◌⊎◌, ℕ, ◌≤◌, List, None, Some, Ok, Err, IfOk, IfErr, false, map, string_bytes};
 ghost use Rattle.log_base.specs.ClusterShape.{InRange, Shape};
 ghost use Rattle.log_base.specs.Shape.{shape};
 ghost use Rattle.disk_base.specs.Lending.{NumberStays};
@@ -10,18 +10,29 @@ ghost use Rattle.command_words.specs.Offered.{IsOffered, Offers};
 ghost use Rattle.command_words.specs.declared.command.Command.TheVariants.{Run};
 ghost use Rattle.command_words.specs.declared.command.Options.{Options};
 ghost use Rattle.scalog_run.specs.Input.{Ending, ReadsAs};
-ghost use Rattle.scalog_run.specs.Lent.{IsDisk, StaysBut, lain};
-ghost use Rattle.scalog_run.specs.Run.{Ran, disks, status_of_fault, status_of_unanswered, world};
-ghost use Rattle.scalog_run.specs.Words.{IsUnused};
+ghost use Rattle.cluster_disks.specs.Lent.{IsDisk, StaysBut, disks, lain};
+ghost use Rattle.cluster_disks.specs.Opened.{AreLater};
+ghost use Rattle.scalog_run.specs.Output.{Sends, bad_words, fault_spelling, sinking};
+ghost use Rattle.scalog_run.specs.Run.{ComesTo, Ran, world};
+ghost use Rattle.scalog_run.specs.Words.{IsUnheard, IsUnused, NameFolder};
 
-use crate::answering::{Unanswered, answer_items};
+use crate::answering::answer_items;
+use crate::fault::{FaultFrame, RunFault};
 use crate::reading::read_items;
+use crate::sending::{send_bytes, send_fault, send_frame};
 use crate::status;
-use command_frame::ItemFault;
 use command_words::{Command, Options, WordsFault, is_offered, read_words};
 use disk_base::Rack;
-use log_base::{Sink, Source, send};
+use log_base::{Sink, Source};
 use std::alloc::Global;
+
+/// What tells that the words are no command.
+const NO_COMMAND: FaultFrame = FaultFrame {
+    status: status::BAD_WORDS,
+    cause: 0,
+    which: 0,
+    at: 0,
+};
 
 /// Does all that the program does, and answers its status. The words are those after the program's
 /// name.
@@ -34,49 +45,51 @@ pub fn scalog<S: Source, K: Sink, Q: Rack>(
 ) -> u8
 where
     Q::D: Drop,
-    ensures bad_words { (result ≡ 2) ↔ (¬ Offers (map string_bytes words.now)) }
-    ensures nothing_done { result ≡ 2 →
-        (world (S.left source.new) (K.taken sink.new) (S.faults source.new) (K.faults sink.new) (lain Q.disk_at Q.disk_faults Q.faults rack.new))
-        ≡ (world (S.left source.old) (K.taken sink.old) (S.faults source.old) (K.faults sink.old) (lain Q.disk_at Q.disk_faults Q.faults rack.old)) }
+    ensures bad_words { ¬ Offers (map string_bytes words.now)
+        → Sends (fault_spelling bad_words) 2 (sinking (K.taken sink.old) (K.faults sink.old)) (sinking (K.taken sink.new) (K.faults sink.new)) result
+        ⊎ IsUnheard (map string_bytes words.now) (sinking (K.taken sink.old) (K.faults sink.old)) (sinking (K.taken sink.new) (K.faults sink.new)) result }
+    ensures only_bad_words { result ≡ 2 → ¬ Offers (map string_bytes words.now) }
+    ensures nothing_done { ¬ Offers (map string_bytes words.now) →
+        (world (S.left source.new) (S.faults source.new) (lain Q.disk_at Q.disk_faults Q.faults rack.new))
+        ≡ (world (S.left source.old) (S.faults source.old) (lain Q.disk_at Q.disk_faults Q.faults rack.old)) }
     ensures command { (options : Options) → Spells (map string_bytes words.now) (Run options) → IsOffered (Run options)
-        → Ran (disks Q.D.reads Q.D.may_leave Q.D.keeps_synced) (shape options.config) options.run
-        (world (S.left source.old) (K.taken sink.old) (S.faults source.old) (K.faults sink.old) (lain Q.disk_at Q.disk_faults Q.faults rack.old))
-        (world (S.left source.new) (K.taken sink.new) (S.faults source.new) (K.faults sink.new) (lain Q.disk_at Q.disk_faults Q.faults rack.new)) result }
+        → Ran (disks Q.D.reads Q.D.may_leave Q.D.keeps_synced Q.D.faults) (shape options.config) options.run
+        (world (S.left source.old) (S.faults source.old) (lain Q.disk_at Q.disk_faults Q.faults rack.old))
+        (world (S.left source.new) (S.faults source.new) (lain Q.disk_at Q.disk_faults Q.faults rack.new))
+        (sinking (K.taken sink.old) (K.faults sink.old)) (sinking (K.taken sink.new) (K.faults sink.new)) result }
     ensures others { (number : ℕ) → IsUnused (map string_bytes words.now) number → NumberStays Q.lent_under Q.disk_faults Q.disk_at rack.old rack.new number }
 {
     match offered(alloc, words) {
-        Some(options) => run_items(alloc, &options, source, sink, rack),
-        None => status::BAD_WORDS,
+        Ok(options) => run_items(alloc, &options, source, sink, rack),
+        Err(WordsFault::NoCommand) => send_frame(sink, NO_COMMAND),
+        Err(WordsFault::Memory) => status::OUT_OF_MEMORY,
     }
 }
 
-/// The options of the words, where they are a command that is offered. A command whose words need memory has
-/// a folder, so it is none that is offered.
-fn offered(alloc: Global, words: &[String]) -> Option<Options>
-    ensures some { IfSome result (λ options. Spells (map string_bytes words.now) (Run options) × IsOffered (Run options)) }
-    ensures none { result ≡ None → ¬ Offers (map string_bytes words.now) }
+/// The options of the words, where they are a command that is offered.
+fn offered(alloc: Global, words: &[String]) -> Result<Options, WordsFault>
+    ensures ok { IfOk result (λ options. Spells (map string_bytes words.now) (Run options) × IsOffered (Run options)) }
+    ensures none { result ≡ Err WordsFault.NoCommand → ¬ Offers (map string_bytes words.now) }
+    ensures memory { result ≡ Err WordsFault.Memory → NameFolder (map string_bytes words.now) }
 {
-    let command = match read_words(alloc, words) {
-        Ok(command) => command,
-        Err(WordsFault::NoCommand | WordsFault::Memory) => return None,
-    };
+    let command = read_words(alloc, words)?;
     if !is_offered(&command) {
-        return None;
+        return Err(WordsFault::NoCommand);
     }
     match command {
-        Command::Run(options) => return Some(options),
-        Command::Cluster(_options) => return None,
-        Command::Check => return None,
+        Command::Run(options) => return Ok(options),
+        Command::Cluster(_options) => return Err(WordsFault::NoCommand),
+        Command::Check => return Err(WordsFault::NoCommand),
         Command::Make {
             options: _options,
             ..
-        } => return None,
+        } => return Err(WordsFault::NoCommand),
     }
 }
 
-/// Answers the items of a source, with the entries of each replica on its disks of a rack, and sends the
-/// replies to a sink. All items are read before a disk is lent, and all disks are handed back before a reply
-/// is sent.
+/// Answers the items of a source over the disks of a rack, and sends the replies and the history to a sink, or
+/// the frame of a fault. All items are read before a disk is lent, and all disks are handed back before
+/// anything is sent.
 pub fn run_items<S: Source, K: Sink, Q: Rack>(
     alloc: Global,
     options: &Options,
@@ -86,47 +99,44 @@ pub fn run_items<S: Source, K: Sink, Q: Rack>(
 ) -> u8
 where
     Q::D: Drop,
+    requires some_run { 1 ≤ options.now.run }
     requires run { options.now.run ≤ 1000000 }
     requires folder { options.now.folder ≡ None }
     requires brief { options.now.brief ≡ false }
-    ensures run { Ran (disks Q.D.reads Q.D.may_leave Q.D.keeps_synced) (shape options.now.config) options.now.run
-        (world (S.left source.old) (K.taken sink.old) (S.faults source.old) (K.faults sink.old) (lain Q.disk_at Q.disk_faults Q.faults rack.old))
-        (world (S.left source.new) (K.taken sink.new) (S.faults source.new) (K.faults sink.new) (lain Q.disk_at Q.disk_faults Q.faults rack.new)) result }
+    ensures run { Ran (disks Q.D.reads Q.D.may_leave Q.D.keeps_synced Q.D.faults) (shape options.now.config) options.now.run
+        (world (S.left source.old) (S.faults source.old) (lain Q.disk_at Q.disk_faults Q.faults rack.old))
+        (world (S.left source.new) (S.faults source.new) (lain Q.disk_at Q.disk_faults Q.faults rack.new))
+        (sinking (K.taken sink.old) (K.faults sink.old)) (sinking (K.taken sink.new) (K.faults sink.new)) result }
     ensures others { StaysBut Q.lent_under Q.disk_faults Q.disk_at (IsDisk (shape options.now.config)) rack.old rack.new }
 {
-    let items = match read_items(alloc, options.config, source) {
-        Ok(items) => items,
-        Err(fault) => return status_of(fault),
-    };
-    let frames = match answer_items(alloc, options, items, rack) {
-        Ok(frames) => frames,
-        Err(unanswered) => return status_of_disk(unanswered),
-    };
-    match send(sink, &frames) {
-        Ok(()) => return status::DONE,
-        Err(_) => return status::WRITE_FAULT,
+    match run_over(alloc, options, source, rack) {
+        Ok(output) => send_bytes(sink, &output, status::DONE),
+        Err(fault) => send_fault(sink, fault),
     }
 }
 
-fn status_of(fault: ItemFault) -> u8
-    ensures { result ≡ status_of_fault fault }
+/// What a run comes to, before anything is sent: its output, or why it has none.
+fn run_over<S: Source, Q: Rack>(
+    alloc: Global,
+    options: &Options,
+    source: &mut S,
+    rack: &mut Q,
+) -> Result<Vec<u8>, RunFault>
+where
+    Q::D: Drop,
+    requires run { (1 ≤ options.now.run) × (options.now.run ≤ 1000000) }
+    ensures output { IfOk result (λ output. ComesTo (disks Q.D.reads Q.D.may_leave Q.D.keeps_synced Q.D.faults) (shape options.now.config) options.now.run
+        (world (S.left source.old) (S.faults source.old) (lain Q.disk_at Q.disk_faults Q.faults rack.old))
+        (world (S.left source.new) (S.faults source.new) (lain Q.disk_at Q.disk_faults Q.faults rack.new)) (Ok output.items)) }
+    ensures fault { IfErr result (λ fault. ComesTo (disks Q.D.reads Q.D.may_leave Q.D.keeps_synced Q.D.faults) (shape options.now.config) options.now.run
+        (world (S.left source.old) (S.faults source.old) (lain Q.disk_at Q.disk_faults Q.faults rack.old))
+        (world (S.left source.new) (S.faults source.new) (lain Q.disk_at Q.disk_faults Q.faults rack.new)) (Err fault)) }
+    ensures later { AreLater (disks Q.D.reads Q.D.may_leave Q.D.keeps_synced Q.D.faults) (shape options.now.config)
+        (lain Q.disk_at Q.disk_faults Q.faults rack.old) (lain Q.disk_at Q.disk_faults Q.faults rack.new) }
+    ensures others { StaysBut Q.lent_under Q.disk_faults Q.disk_at (IsDisk (shape options.now.config)) rack.old rack.new }
 {
-    match fault {
-        ItemFault::Bad { .. } => status::BAD_INPUT,
-        ItemFault::Read { .. } => status::READ_FAULT,
-        ItemFault::Many { .. } => status::TOO_MANY,
-        ItemFault::Memory => status::OUT_OF_MEMORY,
-    }
-}
-
-fn status_of_disk(unanswered: Unanswered) -> u8
-    ensures { result ≡ status_of_unanswered unanswered }
-{
-    match unanswered {
-        Unanswered::Unopened => status::DISK_FAULT,
-        Unanswered::TooMany => status::TOO_MANY,
-        Unanswered::Memory => status::OUT_OF_MEMORY,
-    }
+    let items = read_items(alloc, options.config, source)?;
+    answer_items(alloc, options, &items, rack)
 }
 
 /// An input reads in one way: it has one list of items at its front, and one ending.

@@ -1,6 +1,6 @@
 //! The statuses that the program ends with.
 
-/// All items were answered and the replies were sent.
+/// All items were answered, and the replies and the history were sent.
 pub const DONE: u8 = 0;
 
 /// The words are no command that is offered.
@@ -15,10 +15,10 @@ pub const READ_FAULT: u8 = 4;
 /// The sink failed.
 pub const WRITE_FAULT: u8 = 5;
 
-/// A disk could not be opened: the rack or the disk failed, its bytes are damaged, or it holds something.
+/// A disk could not be opened, its bytes are damaged, or a run may not begin with what the disks hold.
 pub const DISK_FAULT: u8 = 6;
 
-/// The input has too many items, or too many bytes in their records, or 16,384 values are known.
+/// A limit is passed.
 pub const TOO_MANY: u8 = 7;
 
 /// Memory ran out.

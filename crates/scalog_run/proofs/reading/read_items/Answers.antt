@@ -1,6 +1,7 @@
-use Rattle.std.proofs.Common.{ℕ, List, Option, refl, ap, ◌∙◌, arith}
+use Rattle.std.proofs.Common.{ℕ, List, Option, refl, sym, ap, ◌∙◌, subst, arith}
 use Rattle.std.proofs.KnownBytes.{prepend_known-nil}
-use Rattle.log_base.specs.Outside.{Rose, unread}
+use Rattle.log_base.specs.Outside.{Rose, TakesOn, unread}
+use Rattle.log_base.proofs.Taking.{takes_none, takes_then}
 use Rattle.command_frame.specs.declared.items.Item.{Item}
 use Rattle.command_frame.specs.Reader.{ItemReading}
 use Rattle.scalog_run.specs.Steps.{Standing}
@@ -8,7 +9,8 @@ use Rattle.scalog_run.proofs.SoFar.{none_so_far, goes_on, all_read, few_items, r
 use Rattle.scalog_run.proofs.reading.read_items.Goals as goal
 
 abbrev standing : ItemReading → Option (List ℕ) → List Item → Standing
-standing reader left items = record { unread = unread reader.pending left; counts = reader.counts; items = items }
+standing reader left items =
+    record { unread = unread reader.pending left; counts = reader.counts; items = items; place = reader.offset; taken = reader.taken }
 
 -- nothing was read yet
 pub items-init : goal.items-init
@@ -17,7 +19,8 @@ items-init g c =
     let left = g.S.Source.left c.args.source.now in
     record {
       so_far = none_so_far _ left _ (ap (λ (r : ItemReading). unread r.pending left) reader ∙ prepend_known-nil left)
-          (ap (λ (r : ItemReading). r.counts) reader) c.new-items.ensures.items;
+          (ap (λ (r : ItemReading). r.counts) reader) c.new-items.ensures.items (ap (λ (r : ItemReading). r.offset) reader);
+      taken = subst (λ (n : ℕ). TakesOn 0 n left left) (sym (ap (λ (r : ItemReading). r.taken) reader)) (takes_none 0 left (omega arith));
       config = ap (λ (r : ItemReading). r.config) reader;
       fresh = ap (λ (r : ItemReading). r.fault) reader;
       count = omega arith;
@@ -29,6 +32,7 @@ items-preserved g c =
     let kept = c.items.invariant in
     record {
       so_far = goes_on _ _ _ _ _ kept.config kept.so_far (rw c.in-Ok-Taken.field-0-is at c.in-Ok-Taken.ensures.steps);
+      taken = takes_then _ _ _ _ _ _ kept.taken c.in-Ok-Taken.ensures.taken;
       config = c.in-Ok-Taken.ensures.config ∙ kept.config;
       fresh = c.in-Ok-Taken.ensures.fresh;
       count = omega (arith, kept.count, c.in-Ok-Taken.ensures.later);
@@ -61,4 +65,4 @@ returns-in-Err-clause-refused g c =
     let old = standing c.items.reader (left c.items.source) c.items.items.items in
     let new = standing c.read_one.new.reader (left c.read_one.new.source) c.read_one.new.items.items in
     let risen : Rose (g.S.Source.faults c.items.source) (g.S.Source.faults c.read_one.new.source) → Rose (g.S.Source.faults c.args.source.now) (g.S.Source.faults c.read_one.new.source) = λ rose. omega arith in
-    refused _ _ _ old new _ _ c.in-Err.fault kept.config risen kept.so_far c.in-Err.ensures.steps
+    refused _ _ _ (left c.read_one.new.source) old new _ _ c.in-Err.fault kept.config risen kept.so_far (takes_then _ _ _ _ _ _ kept.taken c.in-Err.ensures.taken) c.in-Err.ensures.steps

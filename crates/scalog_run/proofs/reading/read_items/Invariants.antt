@@ -1,5 +1,5 @@
 use Rattle.std.proofs.Common.{◌≡◌, ◌-◌, ◌≤◌, None}
-use Rattle.log_base.specs.Outside.{unread}
+use Rattle.log_base.specs.Outside.{TakesOn, unread}
 use Rattle.log_base.specs.Shape.{shape}
 use Rattle.scalog_run.proofs.SoFar.{SoFar}
 use Rattle.scalog_run.proofs.reading.read_items.Given as goal
@@ -11,7 +11,10 @@ invariant-items g l = record {
     unread = unread l.reader.pending (g.S.Source.left l.source);
     counts = l.reader.counts;
     items = l.items.items;
+    place = l.reader.offset;
+    taken = l.reader.taken;
   });
+  taken : TakesOn 0 l.reader.taken (g.S.Source.left l.initial.source) (g.S.Source.left l.source);
   config : l.reader.config ≡ shape l.fn.config;
   fresh : l.reader.fault ≡ None;
   count : g.S.Source.faults l.initial.source ≤ g.S.Source.faults l.source;
