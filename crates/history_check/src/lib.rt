@@ -11,4 +11,6 @@ pub use checking::check;
 pub use verdicts::{CheckFault, Verdict};
 
 #[cfg(test)]
+mod rows;
+#[cfg(test)]
 mod tests;
