@@ -5,6 +5,3 @@
 mod letters;
 
 pub use letters::EventLetters;
-
-#[cfg(test)]
-mod tests;

@@ -8,6 +8,3 @@ mod sending;
 
 pub use activity::Activity;
 pub use node::GathererNode;
-
-#[cfg(test)]
-mod tests;

@@ -10,4 +10,3 @@ pub mod Planning
 pub mod Putting
 pub mod Reloading
 pub mod Submitting
-pub mod Testing

@@ -5,5 +5,4 @@ pub mod Journals
 pub mod Lists
 pub mod Replica
 pub mod Rows
-pub mod Tested
 pub mod Telling

@@ -29,8 +29,6 @@ mod copying;
 mod reading;
 mod reopening;
 mod submitting;
-#[cfg(test)]
-mod tests;
 
 /// The greatest length of a record.
 const RECORD_LIMIT: u32 = 65_535;
