@@ -22,7 +22,7 @@ use Rattle.history_check.proofs.CourseLaws.{events_join, stage_join}
 
 -- ---- where they end
 
-kept_inside : (least : ℕ) (kept : List Kept) → IsInside (stage_from (Keeping least) (map AKept kept))
+pub kept_inside : (least : ℕ) (kept : List Kept) → IsInside (stage_from (Keeping least) (map AKept kept))
 kept_inside least [] = tt
 kept_inside least (k ∷ kept) = kept_inside k.disk kept
 
@@ -44,7 +44,7 @@ pub replies_stage : (replies : ℕ) → stage_from Before (replicate replies ARe
 replies_stage zero = refl
 replies_stage (suc replies) = replies_stage replies
 
-events_kept : (n : ℕ) (kept : List Kept) → events_from n (map AKept kept) ≡ n
+pub events_kept : (n : ℕ) (kept : List Kept) → events_from n (map AKept kept) ≡ n
 events_kept n [] = refl
 events_kept n (k ∷ kept) = events_kept (n + 0) kept ∙ omega arith
 

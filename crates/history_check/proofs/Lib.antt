@@ -4,3 +4,4 @@ pub mod JudgeLaws
 pub mod NextLaws
 pub mod OneMeaning
 pub mod OneVerdict
+pub mod WrittenLaws

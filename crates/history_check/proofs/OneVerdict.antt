@@ -29,7 +29,7 @@ use Rattle.history_walk.specs.Filling.{filled}
 use Rattle.history_walk.specs.Replies.{IsNodeReply}
 use Rattle.history_walk.proofs.NodeReplies.{node_reply}
 use Rattle.history_check.specs.Courses.{HasTooManyFrames, IsBadAt, IsTooMany, SpellAll, counts_from, events_from, stage_from}
-use Rattle.history_check.specs.Verdicts.{AreHistory, IsFault, IsLegalTo, IsUnlawfulAt, IsVerdict, ReadsHistory, pieces_of}
+use Rattle.history_check.specs.Verdicts.{AreHistory, IsFault, IsLegalTo, IsTrueOf, IsUnlawfulAt, IsVerdict, ReadsHistory, pieces_of}
 use Rattle.history_check.specs.declared.verdicts.Verdict.{Verdict}
 use Rattle.history_check.specs.declared.verdicts.Verdict.TheVariants.{Lawful, Unlawful}
 use Rattle.history_check.specs.declared.verdicts.CheckFault.{CheckFault}
@@ -153,7 +153,7 @@ length-same one other same =
     ap length same.events ∙ length-filled [] same.written ∙ length-alike same.written same.others same.alike ∙ sym (ap length same.other_events ∙ length-filled [] same.others)
 
 -- a whole history that is legal is so at each moment
-legal_front : (n : ℕ) (history : History) → IsLegalTo (length history.events) history → IsLegalTo n history
+pub legal_front : (n : ℕ) (history : History) → IsLegalTo (length history.events) history → IsLegalTo n history
 legal_front n history legal =
     legal_part (shape history.config) history.run (payloads_on history.kept) (take n history.events) (drop n history.events) history.events
     (take-append-drop n history.events)
@@ -187,6 +187,14 @@ one_verdict one other (Lawful n) (Lawful m) same is are = ap Lawful (is.1 ∙ le
 one_verdict one other (Lawful n) (Unlawful place) same is are = absurd (not_both n place one other same is are)
 one_verdict one other (Unlawful place) (Lawful m) same is are = absurd (not_both m place other one (same_sym one other same) are is)
 one_verdict one other (Unlawful place) (Unlawful later) same is are = ap Unlawful (one_place place later one other same is are (order place later))
+
+-- what is said of one is said of the other
+pub verdict_as : (one other : History) (verdict : Verdict) → AreSame one other → IsVerdict one verdict → IsVerdict other verdict
+verdict_as one other (Lawful n) same is = (legal_as n one other same is.0, is.1 ∙ length-same one other same)
+verdict_as one other (Unlawful place) same is = record {
+  breaks = λ legal. is.breaks (legal_as (suc place) other one (same_sym one other same) legal);
+  before = λ earlier lt. legal_as (suc earlier) one other same (is.before earlier lt);
+}
 
 -- ---- the pieces of two histories that are told alike
 
@@ -322,22 +330,44 @@ module _ (bytes : List ℕ) (history : History) (are : AreHistory bytes history)
       no_rest stage events (p ∷ rest) spelled =
           absurd (omega (arith, ap length spelled.4, length-append spelled.0 spelled.1, some_text stage events p spelled.0 spelled.2))
 
--- the one answer to bytes that are a history, whose source did not fail
-exactly : (bytes : List ℕ) (history : History) (verdict : Verdict) (after : Option (List ℕ)) (Stops : ℕ → Type 0) (result : Result Verdict CheckFault)
+-- the answer to bytes that are a history, whose source did not fail, is true of it
+truly : (bytes : List ℕ) (history : History) (after : Option (List ℕ)) (Stops : ℕ → Type 0) (result : Result Verdict CheckFault)
     → IfOk result (λ v. ReadsHistory (Some bytes) after (λ h. IsVerdict h v)) → IfErr result (IsFault Stops (Some bytes)) → ((at : ℕ) → Stops at → ⊥)
-    → AreHistory bytes history → IsVerdict history verdict → (result ≡ Ok verdict) ⊎ (result ≡ Err Memory)
-exactly bytes history verdict after Stops (Ok v) read fault never are is =
-    inl (ap Ok (one_verdict read.history history v verdict (same_read bytes history are after (λ h. IsVerdict h v) read) read.holds is))
-exactly bytes history verdict after Stops (Err (Bad at)) read fault never are is = absurd (not_bad bytes history are at fault)
-exactly bytes history verdict after Stops (Err (Read at)) read fault never are is = absurd (never at fault)
-exactly bytes history verdict after Stops (Err (Many cause)) read fault never are is =
+    → AreHistory bytes history → IsTrueOf history result
+truly bytes history after Stops (Ok v) read fault never are =
+    verdict_as read.history history v (same_read bytes history are after (λ h. IsVerdict h v) read) read.holds
+truly bytes history after Stops (Err (Bad at)) read fault never are = absurd (not_bad bytes history are at fault)
+truly bytes history after Stops (Err (Read at)) read fault never are = absurd (never at fault)
+truly bytes history after Stops (Err (Many cause)) read fault never are =
     absurd (⊎_elim (not_many bytes history are cause) (λ (h : (cause ≡ 1) × HasTooManyFrames (Some bytes)). not_long bytes history are h.1) fault)
-exactly bytes history verdict after Stops (Err Memory) read fault never are is = inr refl
+truly bytes history after Stops (Err Memory) read fault never are = refl
 
-pub exact_answer : (before after : Option (List ℕ)) (bytes : List ℕ) (history : History) (verdict : Verdict) (Stops : ℕ → Type 0) (result : Result Verdict CheckFault) → before ≡ Some bytes
+pub true_answer : (before after : Option (List ℕ)) (bytes : List ℕ) (history : History) (Stops : ℕ → Type 0) (result : Result Verdict CheckFault) → before ≡ Some bytes
     → IfOk result (λ v. ReadsHistory before after (λ h. IsVerdict h v)) → IfErr result (IsFault Stops before) → ((at : ℕ) → Stops at → ⊥)
-    → AreHistory bytes history → IsVerdict history verdict → (result ≡ Ok verdict) ⊎ (result ≡ Err Memory)
-exact_answer before after bytes history verdict Stops result told read fault never are is =
-    exactly bytes history verdict after Stops result
+    → AreHistory bytes history → IsTrueOf history result
+true_answer before after bytes history Stops result told read fault never are =
+    truly bytes history after Stops result
     (subst (λ (b : Option (List ℕ)). IfOk result (λ v. ReadsHistory b after (λ h. IsVerdict h v))) told read)
-    (subst (λ (b : Option (List ℕ)). IfErr result (IsFault Stops b)) told fault) never are is
+    (subst (λ (b : Option (List ℕ)). IfErr result (IsFault Stops b)) told fault) never are
+
+-- there is one such answer
+alike_self : (events : List Event) → AreAlike events events
+alike_self [] = tt
+alike_self (e ∷ events) = (refl, alike_self events)
+
+same_self : (bytes : List ℕ) (history : History) → AreHistory bytes history → AreSame history history
+same_self bytes history are = record {
+  config = refl;
+  run = refl;
+  kept = refl;
+  written = are.written;
+  others = are.written;
+  alike = alike_self are.written;
+  events = are.events;
+  other_events = are.events;
+}
+
+pub exact_answer : (bytes : List ℕ) (history : History) (verdict : Verdict) (result : Result Verdict CheckFault) → AreHistory bytes history → IsTrueOf history result → IsVerdict history verdict
+    → (result ≡ Ok verdict) ⊎ (result ≡ Err Memory)
+exact_answer bytes history verdict (Ok v) are true_of is = inl (ap Ok (one_verdict history history v verdict (same_self bytes history are) true_of is))
+exact_answer bytes history verdict (Err fault) are true_of is = inr (ap Err true_of)

@@ -1,3 +1,4 @@
 pub mod Courses
 pub mod Judging
 pub mod Verdicts
+pub mod Written

@@ -1,5 +1,5 @@
 -- What the verdict on a history says, which history bytes stand for, and why there is no verdict.
-use Rattle.std.specs.Prelude.{◌≡◌, ◌⊎◌, ℕ, suc, ◌<◌, ◌≤◌, List, [], ◌∷◌, ◌++◌, length, map, replicate, take, Option, None}
+use Rattle.std.specs.Prelude.{◌≡◌, ◌⊎◌, ℕ, suc, ◌<◌, ◌≤◌, List, [], ◌∷◌, ◌++◌, length, map, replicate, take, Option, None, Result, Ok, Err}
 use Rattle.std.specs.Io.KnownBytes.{IsAtEnd}
 use Rattle.reply_frame.specs.declared.faults.ItemFault.{ItemFault}
 use Rattle.reply_frame.specs.declared.faults.ItemFault.TheVariants.{Bad as BadItem, Read as ReadItem, Many as ManyItems, Memory as NoMemory}
@@ -62,6 +62,11 @@ pub record AreHistory (bytes : List ℕ) (history : History) : Type 0 where
   pub within : passed_limit (counts_from nothing_yet (pieces_of replies history written)) ≡ None
   pub few : length (pieces_of replies history written) ≤ frame_limit
   pub events : history.events ≡ filled [] written
+
+-- the outcome is the verdict on a history, or memory ran out
+abbrev pub IsTrueOf : History → Result Verdict CheckFault → Type 0
+IsTrueOf history (Ok verdict) = IsVerdict history verdict
+IsTrueOf history (Err fault) = fault ≡ Memory
 
 -- ---- faults
 

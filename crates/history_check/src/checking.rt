@@ -4,7 +4,7 @@ ghost use Rattle.std.specs.Prelude.{◌≡◌, ◌⊎◌, ℕ, ◌≤◌, List, 
 ghost use Rattle.history_frame.specs.declared.events.History.{History};
 ghost use Rattle.history_frame.specs.declared.pieces.Piece.{Piece};
 ghost use Rattle.log_base.specs.Outside.{Rose, TakesOn, unread};
-ghost use Rattle.history_check.specs.Verdicts.{AreHistory, IsFault, IsVerdict, ReadsHistory, fault_of};
+ghost use Rattle.history_check.specs.Verdicts.{AreHistory, IsFault, IsTrueOf, IsVerdict, ReadsHistory, fault_of};
 ghost use Rattle.history_check.specs.Judging.{GoesOn, Judges, JudgesAll};
 ghost use Rattle.history_check.specs.declared.verdicts.Verdict.{Verdict};
 
@@ -35,7 +35,9 @@ pub fn check<S: Source>(alloc: Global, source: &mut S) -> Result<Verdict, CheckF
     ensures fault { IfErr result (IsFault (λ at. Rose (S.faults source.old) (S.faults source.new) × TakesOn 0 at (S.left source.old) (S.left source.new)) (S.left source.old)) }
     ensures later { S.faults source.old ≤ S.faults source.new }
 
-    // Which verdict it is: a history that is told and read without a fault has the one that is true of it.
+    // A history that is told and read without a fault has a verdict that is true of it, and no other one, unless memory ran out.
+    ensures judged { (bytes : List ℕ) (history : History) → S.left source.old ≡ Some bytes → AreHistory bytes history
+        → (Rose (S.faults source.old) (S.faults source.new) → ⊥) → IsTrueOf history result }
     ensures exact { (bytes : List ℕ) (history : History) (verdict : Verdict) → S.left source.old ≡ Some bytes → AreHistory bytes history → IsVerdict history verdict
         → (Rose (S.faults source.old) (S.faults source.new) → ⊥) → (result ≡ Ok verdict) ⊎ (result ≡ Err CheckFault.Memory) }
 {

@@ -5,9 +5,11 @@
 
 mod checking;
 mod judge;
+mod laws;
 mod verdicts;
 
 pub use checking::check;
+pub use laws::{letters_are_named, written_is_read};
 pub use verdicts::{CheckFault, Verdict};
 
 #[cfg(test)]
