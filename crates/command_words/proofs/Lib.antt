@@ -1,4 +1,5 @@
 pub mod GivenSoFar
+pub mod NoFolder
 pub mod NumberText
 pub mod OneCommand
 pub mod OneSetting

@@ -69,4 +69,8 @@ abbrev pub HasFolder : Command → Type 0
 HasFolder (Run options) = IsSome options.folder
 HasFolder (Cluster options) = IsSome options.folder
 HasFolder Check = ⊥
-HasFolder (Make options seed count) = IsSome options.folder
+HasFolder (Make options seed count) = ⊥
+
+-- if the words are a command, it names a folder
+abbrev pub NameFolder : List (List ℕ) → Type 0
+NameFolder words = (command : Command) → Spells words command → HasFolder command

@@ -12,7 +12,7 @@ mod setting;
 
 pub use command::{Command, Options, WordsFault};
 pub use laws::one_command;
-pub use offered::is_offered;
+pub use offered::{Offered, read_offered};
 pub use reading::read_words;
 
 #[cfg(test)]

@@ -1,7 +1,7 @@
 //! Reading the words.
 
 ghost use Rattle.std.specs.Prelude.{◌≡◌, ◌++◌, ℕ, List, map, string_bytes, Ok, Err, IsSome, IfOk};
-ghost use Rattle.command_words.specs.Commands.{Chooses, Gives, HasFolder, Makes, Spells};
+ghost use Rattle.command_words.specs.Commands.{Chooses, Gives, Makes, NameFolder, Spells};
 ghost use Rattle.command_words.specs.declared.command.Command.{Command};
 ghost use Rattle.command_words.specs.declared.command.Options.{Options};
 ghost use Rattle.command_words.specs.declared.given.Given.{Given};
@@ -19,7 +19,7 @@ const MOST_MADE: u32 = 60_000;
 pub fn read_words(alloc: Global, words: &[String]) -> Result<Command, WordsFault>
     ensures command { IfOk result (Spells (map string_bytes words.now)) }
     ensures none { result ≡ Err WordsFault.NoCommand → (command : Command) → Spells (map string_bytes words.now) command → ⊥ }
-    ensures memory { result ≡ Err WordsFault.Memory → (command : Command) → Spells (map string_bytes words.now) command → HasFolder command }
+    ensures memory { result ≡ Err WordsFault.Memory → NameFolder (map string_bytes words.now) }
 {
     let Some((verb, rest)) = words.split_first() else {
         return Err(WordsFault::NoCommand);
@@ -51,7 +51,7 @@ fn read_make(alloc: Global, words: &[String]) -> Result<Command, WordsFault>
     ensures none { result ≡ Err WordsFault.NoCommand → (options : Options) (seed count : ℕ)
         → Makes (map string_bytes words.now) options seed count → ⊥ }
     ensures memory { result ≡ Err WordsFault.Memory → (options : Options) (seed count : ℕ)
-        → Makes (map string_bytes words.now) options seed count → IsSome options.folder }
+        → Makes (map string_bytes words.now) options seed count → ⊥ }
 {
     if words.len() < 2 {
         return Err(WordsFault::NoCommand);

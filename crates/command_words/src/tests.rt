@@ -195,16 +195,19 @@ fn words_of_no_command(rt: HostRuntime) -> Result<(), Fail> {
 
 #[test]
 fn served_so_far(rt: HostRuntime) -> Result<(), Fail> {
-    for (text, offered) in [
-        ("run --run 3 --shards 4", true),
-        ("run --brief", false),
-        ("run --folder disks", false),
-        ("cluster", false),
-        ("check", false),
-        ("make 7 1000", false),
-    ] {
-        let command = read_words(rt.alloc(), &words(rt.alloc(), text)?)?;
-        assert_eq!(rt; is_offered(&command), offered, "{text}");
+    for (text, brief) in [("run --run 3 --shards 4", false), ("run --brief", true)] {
+        match read_offered(rt.alloc(), &words(rt.alloc(), text)?)? {
+            Offered::Run(options) => assert_eq!(rt; options.brief, brief, "{text}"),
+            _ => panic!(rt; "{text}"),
+        }
+    }
+    match read_offered(rt.alloc(), &words(rt.alloc(), "make 7 1000")?)? {
+        Offered::Make { seed, count, .. } => assert_eq!(rt; (seed, count), (7, 1000)),
+        _ => panic!(rt; "make"),
+    }
+    for text in ["run --folder disks", "cluster", "check"] {
+        let read = read_offered(rt.alloc(), &words(rt.alloc(), text)?);
+        assert!(rt; matches!(read, Err(WordsFault::NoCommand)), "{text}");
     }
     Ok(())
 }

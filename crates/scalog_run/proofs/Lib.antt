@@ -4,5 +4,6 @@ pub mod Frames
 pub mod Later
 pub mod Left
 pub mod OneReading
+pub mod Reports
 pub mod SoFar
 pub mod Whole

@@ -41,7 +41,7 @@ use Rattle.quiet_run.specs.Spelled.{AreKept}
 use Rattle.quiet_run.specs.Standing.{Job, StandAfter, job, node_of}
 use Rattle.scalog_run.specs.declared.fault.RunFault.{RunFault}
 use Rattle.scalog_run.specs.Faults.{opening_fault, stopping_fault}
-use Rattle.scalog_run.specs.Histories.{AnswersTo, AreLeft, IsStopped, IsUnbegun, IsWholeRun}
+use Rattle.scalog_run.specs.Histories.{AreLeft, IsStopped, IsUnanswered, IsUnbegun, IsWholeRun}
 use Rattle.scalog_run.proofs.Causes.{AllWentOver, AreAll, disk_causes, disk_opening, told_in, went_over}
 use Rattle.scalog_run.proofs.Empty.{empty_over}
 use Rattle.scalog_run.proofs.Later.{later_all}
@@ -186,7 +186,7 @@ as_many {D = D} {P = P} job events nodes stand = sym (length-map nodes (λ (x : 
 module _ {D : Type 0} (by : Disks D) (config : Shape) (range : InRange config) (run : ℕ) (items : List Item) (old new : ℕ → Lying D) where
   -- the cluster could not be opened
   pub unstarted : (stop : OpenStop) (fault : RunFault) → fault ≡ opening_fault stop → OpensNot by config old new stop ⊎ IsRejected by config run stop old new
-      → AnswersTo by config run items old new (Err fault)
+      → IsUnanswered by config run items fault old new
   unstarted stop fault is why = inl (record { stop = stop; fault_is = is; why = with_empty why })
     where
       with_empty : OpensNot by config old new stop ⊎ IsRejected by config run stop old new → OpensNot by config old new stop ⊎ IsUnbegun by config run items stop old new
@@ -197,7 +197,7 @@ module _ {D : Type 0} (by : Disks D) (config : Shape) (range : InRange config) (
       })
 
   -- the run stopped
-  pub unfinished : (stop : DriveStop) (fault : RunFault) → fault ≡ stopping_fault stop → IsStopped by config run items stop old new → AnswersTo by config run items old new (Err fault)
+  pub unfinished : (stop : DriveStop) (fault : RunFault) → fault ≡ stopping_fault stop → IsStopped by config run items stop old new → IsUnanswered by config run items fault old new
   unfinished stop fault is stopped = inr (record { stop = stop; fault_is = is; stopped = stopped })
 
 -- a run that came to its end, whose output could not be written

@@ -1,10 +1,10 @@
 -- The history of a run over disks that are lent.
-use Rattle.std.specs.Prelude.{◌≡◌, ◌⊎◌, ℕ, ◌++◌, ◌≤◌, List, [], length, IfSome, IsTrue, Result, Ok, Err}
+use Rattle.std.specs.Prelude.{◌≡◌, ◌⊎◌, ℕ, ◌≤◌, List, [], length, IfSome, IsTrue, Result, Ok, Err}
 use Rattle.command_frame.specs.declared.items.Item.{Item}
 use Rattle.history_frame.specs.declared.events.Event.{Event}
 use Rattle.history_frame.specs.declared.events.History.{History}
 use Rattle.history_frame.specs.declared.events.Kept.{Kept}
-use Rattle.history_frame.specs.Spelling.{IsHistory, history_spelling}
+use Rattle.history_frame.specs.Spelling.{IsHistory}
 use Rattle.log_base.specs.ClusterShape.{Shape}
 use Rattle.log_base.specs.Shape.{shape}
 use Rattle.log_base.specs.Wide.{IsBytes}
@@ -23,9 +23,10 @@ use Rattle.quiet_run.specs.declared.outcomes.DriveStop.{DriveStop}
 use Rattle.quiet_run.specs.Runs.{IsWithinLimits, StopsAt}
 use Rattle.quiet_run.specs.Standing.{Job, job}
 use Rattle.scalog_run.specs.declared.fault.RunFault.{RunFault}
+use Rattle.scalog_run.specs.declared.report.Report.{Report}
 use Rattle.scalog_run.specs.Causes.{HasCauses, IsOpening}
 use Rattle.scalog_run.specs.Faults.{opening_fault, stopping_fault}
-use Rattle.scalog_run.specs.Output.{reply_frames}
+use Rattle.scalog_run.specs.Report.{Reports}
 
 -- ---- disks that a history leaves
 
@@ -64,11 +65,6 @@ pub record IsWholeRun {D : Type 0} (by : Disks D) (config : Shape) (run : ℕ) (
   pub causes : HasCauses by config history.events old new
   pub safe : IsFounded config run (payloads_on history.kept) → IsSafe config (payloads_on history.kept) history.events
 
--- the output of a history: the frames of the replies to the items that drive it, and then itself
-abbrev pub output_of : List Item → History → List ℕ
-output_of items history =
-    reply_frames items (replies_of (shape history.config) history.run items history.events) ++ history_spelling history
-
 -- ---- a run that did not
 
 -- A run over what the disks kept that stopped after its first events. It stopped at a limit, which it passed with the last of
@@ -101,13 +97,16 @@ pub record IsUnfinished {D : Type 0} (by : Disks D) (config : Shape) (run : ℕ)
   pub fault_is : fault ≡ stopping_fault stop
   pub stopped : IsStopped by config run items stop old new
 
--- the output is that of the one history of the run
-pub record IsOutput {D : Type 0} (by : Disks D) (config : Shape) (run : ℕ) (items : List Item) (output : List ℕ) (old new : ℕ → Lying D) : Type 0 where
+-- The output is the report of the one history of the run.
+pub record IsOutput {D : Type 0} (by : Disks D) (config : Shape) (run : ℕ) (report : Report) (items : List Item) (output : List ℕ) (old new : ℕ → Lying D) : Type 0 where
   pub history : History
   pub whole : IsWholeRun by config run items history old new
-  pub output_is : output ≡ output_of items history
+  pub reports : Reports report config run items history output
 
-abbrev pub AnswersTo : {D : Type 0} → Disks D → Shape → ℕ → List Item → (ℕ → Lying D) → (ℕ → Lying D) → Result (List ℕ) RunFault → Type 0
-AnswersTo by config run items old new (Ok output) = IsOutput by config run items output old new
-AnswersTo by config run items old new (Err fault) =
-    IsUnstarted by config run items fault old new ⊎ IsUnfinished by config run items fault old new
+-- why items have no output
+abbrev pub IsUnanswered : {D : Type 0} → Disks D → Shape → ℕ → List Item → RunFault → (ℕ → Lying D) → (ℕ → Lying D) → Type 0
+IsUnanswered by config run items fault old new = IsUnstarted by config run items fault old new ⊎ IsUnfinished by config run items fault old new
+
+abbrev pub AnswersTo : {D : Type 0} → Disks D → Shape → ℕ → Report → List Item → (ℕ → Lying D) → (ℕ → Lying D) → Result (List ℕ) RunFault → Type 0
+AnswersTo by config run report items old new (Ok output) = IsOutput by config run report items output old new
+AnswersTo by config run report items old new (Err fault) = IsUnanswered by config run items fault old new

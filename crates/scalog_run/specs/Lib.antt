@@ -2,7 +2,9 @@ pub mod Causes
 pub mod Faults
 pub mod Histories
 pub mod Input
+pub mod Making
 pub mod Output
+pub mod Report
 pub mod Run
 pub mod Steps
 pub mod Words

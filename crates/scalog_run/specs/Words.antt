@@ -1,8 +1,7 @@
 -- Which numbers of a rack the words of a command leave alone, and how words go unheard.
 use Rattle.std.specs.Prelude.{◌≡◌, ℕ, List}
 use Rattle.log_base.specs.Shape.{shape}
-use Rattle.command_words.specs.Commands.{HasFolder, Spells}
-use Rattle.command_words.specs.declared.command.Command.{Command}
+use Rattle.command_words.specs.Commands.{NameFolder, Spells}
 use Rattle.command_words.specs.declared.command.Command.TheVariants.{Run}
 use Rattle.command_words.specs.declared.command.Options.{Options}
 use Rattle.cluster_disks.specs.Lent.{IsDisk}
@@ -11,10 +10,6 @@ use Rattle.scalog_run.specs.Output.{Sinking}
 -- If the words are a run, the number is no disk of its cluster. A word is the list of its bytes.
 abbrev pub IsUnused : List (List ℕ) → ℕ → Type 0
 IsUnused words number = (options : Options) → Spells words (Run options) → ¬ IsDisk (shape options.config) number
-
--- if the words are a command, it names a folder
-abbrev pub NameFolder : List (List ℕ) → Type 0
-NameFolder words = (command : Command) → Spells words command → HasFolder command
 
 -- Memory ran out over words that name a folder, if they are a command, and nothing was sent.
 pub record IsUnheard (words : List (List ℕ)) (sink_old sink_new : Sinking) (status : ℕ) : Type 0 where

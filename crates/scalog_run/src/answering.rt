@@ -1,6 +1,6 @@
 //! Answering items over the disks of a cluster, which a rack lends and takes back.
 
-ghost use Rattle.std.specs.Prelude.{◌≡◌, ◌≤◌, length, Ok, Err, IfOk, IfErr};
+ghost use Rattle.std.specs.Prelude.{◌≡◌, ◌≤◌, length, IfOk, IfErr};
 ghost use Rattle.std.specs.List.{AllByRecursion};
 ghost use Rattle.command_frame.specs.Items.{IsItem};
 ghost use Rattle.reply_frame.specs.Replies.{HasSpelling};
@@ -8,10 +8,13 @@ ghost use Rattle.log_base.specs.Shape.{shape};
 ghost use Rattle.serial_schedule.specs.Driven.{replies_of};
 ghost use Rattle.cluster_disks.specs.Lent.{IsDisk, StaysBut, disks, lain};
 ghost use Rattle.cluster_disks.specs.Opened.{AreLater};
-ghost use Rattle.scalog_run.specs.Histories.{AnswersTo, IsWholeRun};
+ghost use Rattle.quiet_run.specs.Runs.{IsKnownAtMost};
+ghost use Rattle.quiet_run.specs.Standing.{job};
+ghost use Rattle.scalog_run.specs.Histories.{IsOutput, IsUnanswered, IsWholeRun};
+ghost use Rattle.scalog_run.specs.Report.{report_for};
 
 use crate::fault::RunFault;
-use crate::writing::write_output;
+use crate::report::Report;
 use cluster_disks::{Opened, close_nodes, open_cluster};
 use command_frame::Item;
 use command_words::Options;
@@ -19,8 +22,8 @@ use disk_base::Rack;
 use quiet_run::{Driven, drive};
 use std::alloc::Global;
 
-/// Answers items over the disks that the rack lends, and gives the output. The disks lie in the rack again
-/// before the output is written.
+/// Answers items over the disks that the rack lends, and gives the report that the options ask for. The disks lie
+/// in the rack again before it is written.
 pub fn answer_items<Q: Rack>(
     alloc: Global,
     options: &Options,
@@ -32,16 +35,17 @@ where
     requires run { (1 ≤ options.now.run) × (options.now.run ≤ 1000000) }
     requires few { length items.now ≤ 65536 }
     requires items { AllByRecursion (IsItem (shape options.now.config)) items.now }
-    ensures output { IfOk result (λ output. AnswersTo (disks Q.D.reads Q.D.may_leave Q.D.keeps_synced Q.D.faults) (shape options.now.config) options.now.run items.now
-        (lain Q.disk_at Q.disk_faults Q.faults rack.old) (lain Q.disk_at Q.disk_faults Q.faults rack.new) (Ok output.items)) }
-    ensures fault { IfErr result (λ fault. AnswersTo (disks Q.D.reads Q.D.may_leave Q.D.keeps_synced Q.D.faults) (shape options.now.config) options.now.run items.now
-        (lain Q.disk_at Q.disk_faults Q.faults rack.old) (lain Q.disk_at Q.disk_faults Q.faults rack.new) (Err fault)) }
+    ensures output { IfOk result (λ output. IsOutput (disks Q.D.reads Q.D.may_leave Q.D.keeps_synced Q.D.faults) (shape options.now.config) options.now.run
+        (report_for options.now.brief) items.now output.items
+        (lain Q.disk_at Q.disk_faults Q.faults rack.old) (lain Q.disk_at Q.disk_faults Q.faults rack.new)) }
+    ensures fault { IfErr result (λ fault. IsUnanswered (disks Q.D.reads Q.D.may_leave Q.D.keeps_synced Q.D.faults) (shape options.now.config) options.now.run items.now fault
+        (lain Q.disk_at Q.disk_faults Q.faults rack.old) (lain Q.disk_at Q.disk_faults Q.faults rack.new)) }
     ensures later { AreLater (disks Q.D.reads Q.D.may_leave Q.D.keeps_synced Q.D.faults) (shape options.now.config)
         (lain Q.disk_at Q.disk_faults Q.faults rack.old) (lain Q.disk_at Q.disk_faults Q.faults rack.new) }
     ensures others { StaysBut Q.lent_under Q.disk_faults Q.disk_at (IsDisk (shape options.now.config)) rack.old rack.new }
 {
     let driven = drive_over(alloc, options, items, rack)?;
-    Ok(write_output(alloc, items, driven.replies.get(), &driven.history)?)
+    Ok(Report::of(options).bytes(alloc, items, &driven)?)
 }
 
 /// Drives the nodes of a cluster through items, over the disks that the rack lends.
@@ -60,8 +64,10 @@ where
         (lain Q.disk_at Q.disk_faults Q.faults rack.old) (lain Q.disk_at Q.disk_faults Q.faults rack.new)) }
     ensures replies { IfOk result (λ driven. driven.replies ≡ replies_of (shape options.now.config) options.now.run items.now driven.history.events) }
     ensures spelled { IfOk result (λ driven. AllByRecursion HasSpelling driven.replies) }
-    ensures fault { IfErr result (λ fault. AnswersTo (disks Q.D.reads Q.D.may_leave Q.D.keeps_synced Q.D.faults) (shape options.now.config) options.now.run items.now
-        (lain Q.disk_at Q.disk_faults Q.faults rack.old) (lain Q.disk_at Q.disk_faults Q.faults rack.new) (Err fault)) }
+    ensures known { IfOk result (λ driven. IsKnownAtMost (job (shape options.now.config) options.now.run items.now driven.history.kept) driven.history.events
+        driven.known driven.end.0 driven.trim.0) }
+    ensures fault { IfErr result (λ fault. IsUnanswered (disks Q.D.reads Q.D.may_leave Q.D.keeps_synced Q.D.faults) (shape options.now.config) options.now.run items.now fault
+        (lain Q.disk_at Q.disk_faults Q.faults rack.old) (lain Q.disk_at Q.disk_faults Q.faults rack.new)) }
     ensures later { AreLater (disks Q.D.reads Q.D.may_leave Q.D.keeps_synced Q.D.faults) (shape options.now.config)
         (lain Q.disk_at Q.disk_faults Q.faults rack.old) (lain Q.disk_at Q.disk_faults Q.faults rack.new) }
     ensures others { StaysBut Q.lent_under Q.disk_faults Q.disk_at (IsDisk (shape options.now.config)) rack.old rack.new }

@@ -1,19 +1,22 @@
-//! The top call: words to options, items in, replies and their history out, and the status that the program
+//! The top call: words to a command, items in, replies and their history out, and the status that the program
 //! ends with.
 //!
-//! Items are read, the disks of all nodes are opened, the nodes are driven through the items, the disks are
-//! handed back, and then the output is sent, or the frame of the fault that there was.
+//! A run reads its items, opens the disks of all nodes, drives the nodes through the items, hands the disks back,
+//! and then sends its report, or the frame of the fault that there was. Another command makes such items.
 #![tactic(auto)]
 
 mod answering;
 mod fault;
+mod making;
 mod reading;
+mod report;
 mod run;
 mod sending;
 pub mod status;
 mod writing;
 
 pub use command_words::Options;
+pub use making::make_items;
 pub use run::{one_reading, run_items, scalog};
 
 #[cfg(test)]

@@ -7,21 +7,24 @@ ghost use Rattle.disk_base.specs.Lending.{NumberStays};
 ghost use Rattle.command_frame.specs.declared.items.Item.{Item};
 ghost use Rattle.command_words.specs.Commands.{Spells};
 ghost use Rattle.command_words.specs.Offered.{IsOffered, Offers};
-ghost use Rattle.command_words.specs.declared.command.Command.TheVariants.{Run};
+ghost use Rattle.command_words.specs.declared.command.Command.TheVariants.{Make, Run};
 ghost use Rattle.command_words.specs.declared.command.Options.{Options};
 ghost use Rattle.scalog_run.specs.Input.{Ending, ReadsAs};
 ghost use Rattle.cluster_disks.specs.Lent.{IsDisk, StaysBut, disks, lain};
 ghost use Rattle.cluster_disks.specs.Opened.{AreLater};
+ghost use Rattle.scalog_run.specs.Making.{SendsMade};
 ghost use Rattle.scalog_run.specs.Output.{Sends, bad_words, fault_spelling, sinking};
+ghost use Rattle.scalog_run.specs.Report.{report_for};
 ghost use Rattle.scalog_run.specs.Run.{ComesTo, Ran, world};
-ghost use Rattle.scalog_run.specs.Words.{IsUnheard, IsUnused, NameFolder};
+ghost use Rattle.scalog_run.specs.Words.{IsUnheard, IsUnused};
 
 use crate::answering::answer_items;
 use crate::fault::{FaultFrame, RunFault};
+use crate::making::make_items;
 use crate::reading::read_items;
 use crate::sending::{send_bytes, send_fault, send_frame};
 use crate::status;
-use command_words::{Command, Options, WordsFault, is_offered, read_words};
+use command_words::{Offered, Options, WordsFault, read_offered};
 use disk_base::Rack;
 use log_base::{Sink, Source};
 use std::alloc::Global;
@@ -53,42 +56,34 @@ where
         (world (S.left source.new) (S.faults source.new) (lain Q.disk_at Q.disk_faults Q.faults rack.new))
         ≡ (world (S.left source.old) (S.faults source.old) (lain Q.disk_at Q.disk_faults Q.faults rack.old)) }
     ensures command { (options : Options) → Spells (map string_bytes words.now) (Run options) → IsOffered (Run options)
-        → Ran (disks Q.D.reads Q.D.may_leave Q.D.keeps_synced Q.D.faults) (shape options.config) options.run
+        → Ran (disks Q.D.reads Q.D.may_leave Q.D.keeps_synced Q.D.faults) (shape options.config) options.run (report_for options.brief)
         (world (S.left source.old) (S.faults source.old) (lain Q.disk_at Q.disk_faults Q.faults rack.old))
         (world (S.left source.new) (S.faults source.new) (lain Q.disk_at Q.disk_faults Q.faults rack.new))
         (sinking (K.taken sink.old) (K.faults sink.old)) (sinking (K.taken sink.new) (K.faults sink.new)) result }
+    ensures make { (options : Options) (seed count : ℕ) → Spells (map string_bytes words.now) (Make options seed count)
+        → SendsMade (shape options.config) seed count (sinking (K.taken sink.old) (K.faults sink.old)) (sinking (K.taken sink.new) (K.faults sink.new)) result }
+    ensures untouched { (options : Options) (seed count : ℕ) → Spells (map string_bytes words.now) (Make options seed count) →
+        (world (S.left source.new) (S.faults source.new) (lain Q.disk_at Q.disk_faults Q.faults rack.new))
+        ≡ (world (S.left source.old) (S.faults source.old) (lain Q.disk_at Q.disk_faults Q.faults rack.old)) }
     ensures others { (number : ℕ) → IsUnused (map string_bytes words.now) number → NumberStays Q.lent_under Q.disk_faults Q.disk_at rack.old rack.new number }
 {
-    match offered(alloc, words) {
-        Ok(options) => run_items(alloc, &options, source, sink, rack),
-        Err(WordsFault::NoCommand) => send_frame(sink, NO_COMMAND),
-        Err(WordsFault::Memory) => status::OUT_OF_MEMORY,
-    }
-}
-
-/// The options of the words, where they are a command that is offered.
-fn offered(alloc: Global, words: &[String]) -> Result<Options, WordsFault>
-    ensures ok { IfOk result (λ options. Spells (map string_bytes words.now) (Run options) × IsOffered (Run options)) }
-    ensures none { result ≡ Err WordsFault.NoCommand → ¬ Offers (map string_bytes words.now) }
-    ensures memory { result ≡ Err WordsFault.Memory → NameFolder (map string_bytes words.now) }
-{
-    let command = read_words(alloc, words)?;
-    if !is_offered(&command) {
-        return Err(WordsFault::NoCommand);
-    }
+    let command = match read_offered(alloc, words) {
+        Ok(command) => command,
+        Err(WordsFault::NoCommand) => return send_frame(sink, NO_COMMAND),
+        Err(WordsFault::Memory) => return status::OUT_OF_MEMORY,
+    };
     match command {
-        Command::Run(options) => return Ok(options),
-        Command::Cluster(_options) => return Err(WordsFault::NoCommand),
-        Command::Check => return Err(WordsFault::NoCommand),
-        Command::Make {
-            options: _options,
-            ..
-        } => return Err(WordsFault::NoCommand),
+        Offered::Run(options) => run_items(alloc, &options, source, sink, rack),
+        Offered::Make {
+            options,
+            seed,
+            count,
+        } => make_items(alloc, &options, seed, count, sink),
     }
 }
 
-/// Answers the items of a source over the disks of a rack, and sends the replies and the history to a sink, or
-/// the frame of a fault. All items are read before a disk is lent, and all disks are handed back before
+/// Answers the items of a source over the disks of a rack, and sends the report that the options ask for to a
+/// sink, or the frame of a fault. All items are read before a disk is lent, and all disks are handed back before
 /// anything is sent.
 pub fn run_items<S: Source, K: Sink, Q: Rack>(
     alloc: Global,
@@ -102,8 +97,7 @@ where
     requires some_run { 1 ≤ options.now.run }
     requires run { options.now.run ≤ 1000000 }
     requires folder { options.now.folder ≡ None }
-    requires brief { options.now.brief ≡ false }
-    ensures run { Ran (disks Q.D.reads Q.D.may_leave Q.D.keeps_synced Q.D.faults) (shape options.now.config) options.now.run
+    ensures run { Ran (disks Q.D.reads Q.D.may_leave Q.D.keeps_synced Q.D.faults) (shape options.now.config) options.now.run (report_for options.now.brief)
         (world (S.left source.old) (S.faults source.old) (lain Q.disk_at Q.disk_faults Q.faults rack.old))
         (world (S.left source.new) (S.faults source.new) (lain Q.disk_at Q.disk_faults Q.faults rack.new))
         (sinking (K.taken sink.old) (K.faults sink.old)) (sinking (K.taken sink.new) (K.faults sink.new)) result }
@@ -125,10 +119,10 @@ fn run_over<S: Source, Q: Rack>(
 where
     Q::D: Drop,
     requires run { (1 ≤ options.now.run) × (options.now.run ≤ 1000000) }
-    ensures output { IfOk result (λ output. ComesTo (disks Q.D.reads Q.D.may_leave Q.D.keeps_synced Q.D.faults) (shape options.now.config) options.now.run
+    ensures output { IfOk result (λ output. ComesTo (disks Q.D.reads Q.D.may_leave Q.D.keeps_synced Q.D.faults) (shape options.now.config) options.now.run (report_for options.now.brief)
         (world (S.left source.old) (S.faults source.old) (lain Q.disk_at Q.disk_faults Q.faults rack.old))
         (world (S.left source.new) (S.faults source.new) (lain Q.disk_at Q.disk_faults Q.faults rack.new)) (Ok output.items)) }
-    ensures fault { IfErr result (λ fault. ComesTo (disks Q.D.reads Q.D.may_leave Q.D.keeps_synced Q.D.faults) (shape options.now.config) options.now.run
+    ensures fault { IfErr result (λ fault. ComesTo (disks Q.D.reads Q.D.may_leave Q.D.keeps_synced Q.D.faults) (shape options.now.config) options.now.run (report_for options.now.brief)
         (world (S.left source.old) (S.faults source.old) (lain Q.disk_at Q.disk_faults Q.faults rack.old))
         (world (S.left source.new) (S.faults source.new) (lain Q.disk_at Q.disk_faults Q.faults rack.new)) (Err fault)) }
     ensures later { AreLater (disks Q.D.reads Q.D.may_leave Q.D.keeps_synced Q.D.faults) (shape options.now.config)

@@ -1,6 +1,6 @@
 //! The statuses that the program ends with.
 
-/// All items were answered, and the replies and the history were sent.
+/// The command was carried out, and all that it asks for was sent.
 pub const DONE: u8 = 0;
 
 /// The words are no command that is offered.

@@ -10,6 +10,10 @@ use std::test::Fail;
 // Two replicas of each of two shards, three orderers and one gatherer.
 const RUN: [&str; 1] = ["run"];
 
+const BRIEF: [&str; 2] = ["run", "--brief"];
+
+const MAKE: [&str; 3] = ["make", "7", "3"];
+
 const SECOND_RUN: [&str; 3] = ["run", "--run", "2"];
 
 // A call that no run makes.
@@ -37,6 +41,10 @@ const EMPTY_RECORD: &[u8] =
 // Settled at slot 0, at position 0, and the empty record found there.
 const EMPTY_RECORD_ANSWERED: &[u8] =
     b"\0\0\0\x07\x40\0\x14\0\0\0\0\0\0\0\x0b\x40\0\x02\0\0\0\0\0\0\0\0\0\0\0\x19\x40\0\x03\0\0\0\0\0\0\0\0\0\0\0\0\0\x01\0\0\0\0\0\0\0\0";
+
+// What is made from seed 7: the additions of two shards, a read, a subscription and an append of 20 letters.
+const MADE: &[u8] =
+    b"\0\0\0\x04\x05\0\0\0\0\0\0\x04\x05\0\0\x01\0\0\0\x0d\x02\x03\0\0\0\0\0\0\0\0\0\0\0\0\0\0\x0f\x03\x03\0\x01\x01\0\0\0\0\0\0\0\x01\0\x04\0\0\0\x19\x01\x02\0\x01\x01cdefghijklmnopqrstuv";
 
 const READ_APPEND: &[u8] = b"\0\0\0\x0d\x02\0\0\0\0\0\0\0\0\0\0\0\0\0\0\0\x06\x01\0\0\0\0b";
 
@@ -137,6 +145,30 @@ fn inputs_are_answered(rt: HostRuntime) -> Result<(), Fail> {
         if let Some(events) = events {
             assert_eq!(rt; count_frames(history, EVENT), events, "{name}");
         }
+    }
+    Ok(())
+}
+
+// The words of a command, its input, and what it sends.
+#[test]
+fn lines_and_made_inputs_are_sent(rt: HostRuntime) -> Result<(), Fail> {
+    let table = [
+        (
+            BRIEF.as_slice(),
+            b"".as_slice(),
+            b"items 0 events 15 slots 0 end 0 trim 0\n".as_slice(),
+        ),
+        (
+            BRIEF.as_slice(),
+            ADD_APPEND_READ,
+            b"items 3 events 118 slots 2 end 1 trim 0\n",
+        ),
+        (MAKE.as_slice(), b"", MADE),
+    ];
+    for (words, input, sent) in table {
+        let outcome = run_anew(&rt, words, input)?;
+        assert_eq!(rt; outcome.status, status::DONE);
+        assert_eq!(rt; outcome.sent.as_slice(), sent);
     }
     Ok(())
 }

@@ -1,14 +1,16 @@
-use Rattle.std.proofs.Common.{◌≡◌, ℕ, List, length, Err, sym, ap, ◌∙◌, subst, arith}
+use Rattle.std.proofs.Common.{◌≡◌, ℕ, List, length, sym, ap, ◌∙◌, subst, arith}
 use Rattle.reply_frame.specs.declared.replies.Reply.{Reply}
 use Rattle.log_base.specs.declared.cluster_shape.Config.{Config}
 use Rattle.log_base.specs.Shape.{shape}
 use Rattle.cluster_disks.specs.Lent.{IsDisk, IsDiskBelow, disks, lain}
 use Rattle.cluster_disks.specs.Nodes.{nodes_in}
 use Rattle.cluster_disks.proofs.Lending.{stays_join}
+use Rattle.history_frame.specs.declared.events.Kept.{Kept}
+use Rattle.quiet_run.specs.Runs.{IsKnownAtMost}
 use Rattle.quiet_run.specs.Standing.{job}
 use Rattle.scalog_run.specs.declared.fault.RunFault.{RunFault}
 use Rattle.scalog_run.specs.Faults.{opening_fault, stopping_fault}
-use Rattle.scalog_run.specs.Histories.{AnswersTo}
+use Rattle.scalog_run.specs.Histories.{IsUnanswered}
 use Rattle.scalog_run.proofs.Whole.{IsBack, IsFinished, all_seated, as_many, if_err_with, later_back, some_stand, stopped_run, unfinished, unstarted, whole_run}
 use Rattle.scalog_run.proofs.answering.drive_over.Goals as goal
 
@@ -43,7 +45,7 @@ returns-in_err-nodes-clause-fault g c =
     let old = under c.args.rack.now in
     let new = under c.open_cluster.new.rack in
     let stop = c.in_err-nodes.field-0.0 in
-    if_err_with c.from_residual.result (λ (fault : RunFault). fault ≡ opening_fault stop) (λ (fault : RunFault). AnswersTo by (shape config) run items old new (Err fault))
+    if_err_with c.from_residual.result (λ (fault : RunFault). fault ≡ opening_fault stop) (λ (fault : RunFault). IsUnanswered by (shape config) run items fault old new)
     (λ fault is. unstarted by (shape config) config.in_range run items old new stop fault is c.in_err-nodes.ensures.fails)
     c.from_residual.ensures.1
 
@@ -68,7 +70,7 @@ returns-in_err-driven-clause-fault g c =
       rack = λ number. omega (arith, c.open_cluster.ensures.later, c.close_nodes.ensures.later);
     } in
     let stop = c.in_err-driven.field-0.0 in
-    if_err_with c.from_residual-in_err-driven.result (λ (fault : RunFault). fault ≡ stopping_fault stop) (λ (fault : RunFault). AnswersTo by (shape config) run items old new (Err fault))
+    if_err_with c.from_residual-in_err-driven.result (λ (fault : RunFault). fault ≡ stopping_fault stop) (λ (fault : RunFault). IsUnanswered by (shape config) run items fault old new)
     (λ fault is. unfinished by (shape config) config.in_range run items old new stop fault is
     (stopped_run by (shape config) config.in_range run items old new before after kept back stop c.in_err-driven.ensures.stopped_causes))
     c.from_residual-in_err-driven.ensures.1
@@ -142,6 +144,13 @@ returns-clause-whole g c =
       stand = driven.nodes;
     } in
     whole_run by (shape config) config.in_range run items old new before after kept back history finished
+
+-- what is known is told of the history
+pub returns-clause-known : goal.returns-clause-known
+returns-clause-known g c =
+    let driven = c.in_ok-driven.field-0 in
+    subst (λ (kept : List Kept). IsKnownAtMost (job (shape c.args.options.now.config) c.args.options.now.run c.args.items.now kept) driven.history.events
+    driven.known driven.end.0 driven.trim.0) (sym c.in_ok-driven.ensures.given.2) c.in_ok-driven.ensures.known
 
 pub returns-clause-later : goal.returns-clause-later
 returns-clause-later g c =
