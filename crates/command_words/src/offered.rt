@@ -13,6 +13,8 @@ use std::alloc::Global;
 pub enum Offered {
     /// A run with its disks in memory.
     Run(Options),
+    /// A check of a history.
+    Check,
     /// Items that are made from a seed, as many as are counted behind those that add the shards.
     Make {
         options: Options,
@@ -54,6 +56,7 @@ fn served(command: Command) -> Option<Offered>
             seed,
             count,
         }),
-        Command::Cluster(_) | Command::Check => None,
+        Command::Check => Some(Offered::Check),
+        Command::Cluster(_) => None,
     }
 }

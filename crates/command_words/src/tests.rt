@@ -205,7 +205,11 @@ fn served_so_far(rt: HostRuntime) -> Result<(), Fail> {
         Offered::Make { seed, count, .. } => assert_eq!(rt; (seed, count), (7, 1000)),
         _ => panic!(rt; "make"),
     }
-    for text in ["run --folder disks", "cluster", "check"] {
+    match read_offered(rt.alloc(), &words(rt.alloc(), "check")?)? {
+        Offered::Check => {}
+        _ => panic!(rt; "check"),
+    }
+    for text in ["run --folder disks", "cluster"] {
         let read = read_offered(rt.alloc(), &words(rt.alloc(), text)?);
         assert!(rt; matches!(read, Err(WordsFault::NoCommand)), "{text}");
     }

@@ -1,4 +1,6 @@
 pub mod Causes
+pub mod Checkable
+pub mod Checked
 pub mod Empty
 pub mod Frames
 pub mod Later

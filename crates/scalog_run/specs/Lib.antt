@@ -1,4 +1,5 @@
 pub mod Causes
+pub mod Checking
 pub mod Faults
 pub mod Histories
 pub mod Input

@@ -6,6 +6,7 @@
 #![tactic(auto)]
 
 mod answering;
+mod checking;
 mod fault;
 mod making;
 mod reading;
@@ -15,9 +16,12 @@ mod sending;
 pub mod status;
 mod writing;
 
+pub use checking::{check_history, runs_are_lawful};
 pub use command_words::Options;
 pub use making::make_items;
 pub use run::{one_reading, run_items, scalog};
 
+#[cfg(test)]
+mod checking_tests;
 #[cfg(test)]
 mod tests;

@@ -7,11 +7,12 @@ ghost use Rattle.disk_base.specs.Lending.{NumberStays};
 ghost use Rattle.command_frame.specs.declared.items.Item.{Item};
 ghost use Rattle.command_words.specs.Commands.{Spells};
 ghost use Rattle.command_words.specs.Offered.{IsOffered, Offers};
-ghost use Rattle.command_words.specs.declared.command.Command.TheVariants.{Make, Run};
+ghost use Rattle.command_words.specs.declared.command.Command.TheVariants.{Check, Make, Run};
 ghost use Rattle.command_words.specs.declared.command.Options.{Options};
 ghost use Rattle.scalog_run.specs.Input.{Ending, ReadsAs};
 ghost use Rattle.cluster_disks.specs.Lent.{IsDisk, StaysBut, disks, lain};
 ghost use Rattle.cluster_disks.specs.Opened.{AreLater};
+ghost use Rattle.scalog_run.specs.Checking.{Checked, sourcing};
 ghost use Rattle.scalog_run.specs.Making.{SendsMade};
 ghost use Rattle.scalog_run.specs.Output.{Sends, bad_words, fault_spelling, sinking};
 ghost use Rattle.scalog_run.specs.Report.{report_for};
@@ -19,6 +20,7 @@ ghost use Rattle.scalog_run.specs.Run.{ComesTo, Ran, world};
 ghost use Rattle.scalog_run.specs.Words.{IsUnheard, IsUnused};
 
 use crate::answering::answer_items;
+use crate::checking::check_history;
 use crate::fault::{FaultFrame, RunFault};
 use crate::making::make_items;
 use crate::reading::read_items;
@@ -60,6 +62,11 @@ where
         (world (S.left source.old) (S.faults source.old) (lain Q.disk_at Q.disk_faults Q.faults rack.old))
         (world (S.left source.new) (S.faults source.new) (lain Q.disk_at Q.disk_faults Q.faults rack.new))
         (sinking (K.taken sink.old) (K.faults sink.old)) (sinking (K.taken sink.new) (K.faults sink.new)) result }
+    ensures check { Spells (map string_bytes words.now) Check
+        → Checked (sourcing (S.left source.old) (S.faults source.old)) (sourcing (S.left source.new) (S.faults source.new))
+        (sinking (K.taken sink.old) (K.faults sink.old)) (sinking (K.taken sink.new) (K.faults sink.new)) result }
+    ensures unlent { Spells (map string_bytes words.now) Check
+        → lain Q.disk_at Q.disk_faults Q.faults rack.new ≡ lain Q.disk_at Q.disk_faults Q.faults rack.old }
     ensures make { (options : Options) (seed count : ℕ) → Spells (map string_bytes words.now) (Make options seed count)
         → SendsMade (shape options.config) seed count (sinking (K.taken sink.old) (K.faults sink.old)) (sinking (K.taken sink.new) (K.faults sink.new)) result }
     ensures untouched { (options : Options) (seed count : ℕ) → Spells (map string_bytes words.now) (Make options seed count) →
@@ -74,6 +81,7 @@ where
     };
     match command {
         Offered::Run(options) => run_items(alloc, &options, source, sink, rack),
+        Offered::Check => check_history(alloc, source, sink),
         Offered::Make {
             options,
             seed,

@@ -21,5 +21,8 @@ pub const DISK_FAULT: u8 = 6;
 /// A limit is passed.
 pub const TOO_MANY: u8 = 7;
 
+/// The checked history is not legal.
+pub const UNLAWFUL: u8 = 8;
+
 /// Memory ran out.
 pub const OUT_OF_MEMORY: u8 = 9;

@@ -8,20 +8,22 @@ use log_base::{MemorySink, MemorySource};
 use std::test::Fail;
 
 // Two replicas of each of two shards, three orderers and one gatherer.
-const RUN: [&str; 1] = ["run"];
+pub(crate) const RUN: [&str; 1] = ["run"];
 
 const BRIEF: [&str; 2] = ["run", "--brief"];
+
+const CHECK: [&str; 1] = ["check"];
 
 const MAKE: [&str; 3] = ["make", "7", "3"];
 
 const SECOND_RUN: [&str; 3] = ["run", "--run", "2"];
 
 // A call that no run makes.
-const NEVER: u32 = u32::MAX;
+pub(crate) const NEVER: u32 = u32::MAX;
 
 const ADD: &[u8] = b"\0\0\0\x04\x05\0\0\0";
 
-const ADD_APPEND_READ: &[u8] =
+pub(crate) const ADD_APPEND_READ: &[u8] =
     b"\0\0\0\x04\x05\0\0\0\0\0\0\x06\x01\0\0\0\0a\0\0\0\x0d\x02\0\0\0\0\0\0\0\0\0\0\0\0";
 
 // Settled at slot 0, at position 0, and the record found there.
@@ -68,9 +70,9 @@ const EVENT: u8 = 0x62;
 
 // The status of a run and what its sink has taken.
 #[derive(Drop)]
-struct Outcome {
-    status: u8,
-    sent: Vec<u8>,
+pub(crate) struct Outcome {
+    pub(crate) status: u8,
+    pub(crate) sent: Vec<u8>,
 }
 
 fn run_on(
@@ -97,7 +99,7 @@ fn run_on(
     Ok(Outcome { status, sent })
 }
 
-fn run_anew(rt: &HostRuntime, words: &[&str], input: &[u8]) -> Result<Outcome, Fail> {
+pub(crate) fn run_anew(rt: &HostRuntime, words: &[&str], input: &[u8]) -> Result<Outcome, Fail> {
     let mut rack = MemoryRack::new(rt.alloc());
     run_on(rt, words, input, NEVER, NEVER, &mut rack)
 }
@@ -162,6 +164,11 @@ fn lines_and_made_inputs_are_sent(rt: HostRuntime) -> Result<(), Fail> {
             BRIEF.as_slice(),
             ADD_APPEND_READ,
             b"items 3 events 118 slots 2 end 1 trim 0\n",
+        ),
+        (
+            CHECK.as_slice(),
+            b"\0\0\0\x09\x60\x02\x02\x03\x01\0\0\0\x01",
+            b"\0\0\0\x05\x63\0\0\0\0",
         ),
         (MAKE.as_slice(), b"", MADE),
     ];

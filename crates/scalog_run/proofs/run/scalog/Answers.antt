@@ -2,7 +2,7 @@ use Rattle.std.proofs.Common.{◌≡◌, ℕ, List, Option, Some, None, IsSome, 
 use Rattle.log_base.specs.Shape.{shape}
 use Rattle.command_words.specs.Commands.{Spells}
 use Rattle.command_words.specs.Offered.{command_of}
-use Rattle.command_words.specs.declared.command.Command.TheVariants.{Make, Run}
+use Rattle.command_words.specs.declared.command.Command.TheVariants.{Check, Make, Run}
 use Rattle.command_words.specs.declared.command.Options.{Options}
 use Rattle.command_words.specs.declared.offered.Offered.{Offered}
 use Rattle.command_words.proofs.OneCommand.{one_command}
@@ -42,10 +42,16 @@ returns-in-Err-NoCommand-clause-command g c options spells offered = absurd (c.i
 pub returns-in-Err-NoCommand-clause-make : goal.returns-in-Err-NoCommand-clause-make
 returns-in-Err-NoCommand-clause-make g c options seed count spells = absurd (c.in-Err-NoCommand.ensures.none (cc) (Make options seed count, spells, tt))
 
+pub returns-in-Err-NoCommand-clause-check : goal.returns-in-Err-NoCommand-clause-check
+returns-in-Err-NoCommand-clause-check g c spells = absurd (c.in-Err-NoCommand.ensures.none (cc) (Check, spells, tt))
+
 -- memory ran out over a folder
 pub returns-in-Err-Memory-clause-command : goal.returns-in-Err-Memory-clause-command
 returns-in-Err-Memory-clause-command g c options spells offered =
     absurd (no_folder options.folder offered (c.in-Err-Memory.ensures.memory (cc) (Run options) spells))
+
+pub returns-in-Err-Memory-clause-check : goal.returns-in-Err-Memory-clause-check
+returns-in-Err-Memory-clause-check g c spells = absurd (c.in-Err-Memory.ensures.memory (cc) Check spells)
 
 -- the words are a run
 pub returns-in-Run-clause-command : goal.returns-in-Run-clause-command
