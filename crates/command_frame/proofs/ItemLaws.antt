@@ -1,5 +1,5 @@
 -- What is read from a body is spelled so, and what is spelled is read again.
-use Rattle.std.proofs.Common.{◌≡◌, ℕ, ◌<◌, ◌≤◌, ◌^◌, Bool, true, false, ◌&&◌, List, [], ◌∷◌, ◌++◌, length, drop, get_or, ltb, leb, eqb, cond, Some, None, refl, sym, ap, ◌∙◌, subst, append-nil, arith}
+use Rattle.std.proofs.Common.{◌≡◌, ℕ, ◌<◌, ◌≤◌, ◌^◌, Bool, true, false, ◌&&◌, List, [], ◌∷◌, ◌++◌, length, drop, get_or, ltb, leb, eqb, cond, Option, Some, None, refl, sym, ap, ◌∙◌, subst, append-nil, arith}
 use Rattle.std.proofs.lemmas.Bool.{and_parts, and_from, ltb-true, leb-true, eqb-true, lt-ltb, le-leb, eq-eqb, cond-true}
 use Rattle.std.proofs.lemmas.Option.{cond_some}
 use Rattle.std.proofs.lemmas.List.{length-drop, take_all}
@@ -7,9 +7,9 @@ use Rattle.log_base.specs.ClusterShape.{Shape, InRange}
 use Rattle.log_base.specs.Wide.{IsBytes, be2, be8, number2, number8}
 use Rattle.log_base.proofs.Wide.{length-be8, number2-be2, number8-be8, be2-number2, be8-number8, number8-lt, IsBytes-drop}
 use Rattle.command_frame.specs.declared.items.Item.{Item}
-use Rattle.command_frame.specs.declared.items.Item.TheVariants.{Append, Read, Add}
+use Rattle.command_frame.specs.declared.items.Item.TheVariants.{Append, Read, Trim, Add, Finalise}
 use Rattle.command_frame.specs.Items.{item_kind, item_body, IsItem, Spells}
-use Rattle.command_frame.specs.Reading.{names_shard, names_replica, append_of, read_of, add_of, item_of}
+use Rattle.command_frame.specs.Reading.{names_shard, names_replica, append_of, read_of, trim_of, add_of, finalise_of, item_of}
 
 -- ---- what is read is spelled so
 
@@ -30,6 +30,11 @@ four_front (a ∷ b ∷ c ∷ d ∷ rest) h l = ap (λ (two : List ℕ). a ∷ t
 eight_rest : (body : List ℕ) → IsBytes body → length body ≡ 12 → drop 4 body ≡ be8 (number8 body 4)
 eight_rest body h l =
     sym (be8-number8 body 4 h (omega arith) ∙ take_all 8 (drop 4 body) (omega (arith, length-drop 4 body)))
+
+nine_front : (body : List ℕ) → IsBytes body → length body ≡ 9 → body ≡ get_or body 0 0 ∷ be8 (number8 body 1)
+nine_front [] h l = absurd (omega arith)
+nine_front (a ∷ rest) h l =
+    ap (λ (eight : List ℕ). a ∷ eight) (sym (be8-number8 (a ∷ rest) 1 h (omega arith) ∙ take_all 8 rest (omega arith)))
 
 append_takes : (c : Shape) (body : List ℕ) (item : Item) → IsBytes body → append_of c body ≡ Some item → Spells c 1 body item
 unfolding append_of
@@ -63,6 +68,17 @@ read_takes c body item h e =
       is_item = (ltb-true _ 64 lane.0, ltb-true _ _ lane.1, ltb-true _ _ named.1, number8-lt body 4 h);
     })
 
+trim_takes : (c : Shape) (body : List ℕ) (item : Item) → IsBytes body → trim_of body ≡ Some item → Spells c 4 body item
+unfolding trim_of
+trim_takes c body item h e =
+    let found = cond_some (eqb (length body) 9 && ltb (get_or body 0 0) 64) _ _ e in
+    let long = and_parts (eqb (length body) 9) _ found.0 in
+    subst (Spells c 4 body) found.1 (record {
+      of_kind = refl;
+      with_body = nine_front body h (eqb-true _ 9 long.0);
+      is_item = (ltb-true _ 64 long.1, number8-lt body 1 h);
+    })
+
 add_takes : (c : Shape) (body : List ℕ) (item : Item) → IsBytes body → add_of c body ≡ Some item → Spells c 5 body item
 unfolding add_of
 add_takes c body item h e =
@@ -75,24 +91,35 @@ add_takes c body item h e =
       is_item = (ltb-true _ 64 lane.0, ltb-true _ _ lane.1);
     })
 
+finalise_takes : (c : Shape) (body : List ℕ) (item : Item) → IsBytes body → finalise_of c body ≡ Some item → Spells c 6 body item
+unfolding finalise_of
+finalise_takes c body item h e =
+    let found = cond_some (eqb (length body) 3 && names_shard c body) _ _ e in
+    let long = and_parts (eqb (length body) 3) _ found.0 in
+    let lane = and_parts (ltb (get_or body 0 0) 64) _ long.1 in
+    subst (Spells c 6 body) found.1 (record {
+      of_kind = refl;
+      with_body = three_front body h (eqb-true _ 3 long.0);
+      is_item = (ltb-true _ 64 lane.0, ltb-true _ _ lane.1);
+    })
+
+-- one kind of several: what it reads is spelled so, and what the others read is
+one_kind : (c : Shape) (kind known : ℕ) (body : List ℕ) (item : Item) (read others : Option Item) → (read ≡ Some item → Spells c known body item)
+    → (others ≡ Some item → Spells c kind body item) → cond (eqb kind known) read others ≡ Some item → Spells c kind body item
+one_kind c kind known body item read others this that e = either (eqb kind known) (eqb-true kind known) e
+  where
+    either : (is_known : Bool) → (is_known ≡ true → kind ≡ known) → cond is_known read others ≡ Some item → Spells c kind body item
+    either true k e = subst (λ (n : ℕ). Spells c n body item) (sym (k refl)) (this e)
+    either false k e = that e
+
 pub item_takes : (c : Shape) (kind : ℕ) (body : List ℕ) (item : Item) → IsBytes body → item_of c kind body ≡ Some item → Spells c kind body item
 unfolding item_of
-item_takes c kind body item h e = first (eqb kind 1) (eqb-true kind 1) e
-  where
-    third : (is_add : Bool) → (is_add ≡ true → kind ≡ 5) → cond is_add (add_of c body) None ≡ Some item → Spells c kind body item
-    third true k e = subst (λ (n : ℕ). Spells c n body item) (sym (k refl)) (add_takes c body item h e)
-    third false k e = cc
-
-    second : (is_read : Bool) → (is_read ≡ true → kind ≡ 2) → cond is_read (read_of c body) (cond (eqb kind 5) (add_of c body) None) ≡ Some item
-        → Spells c kind body item
-    second true k e = subst (λ (n : ℕ). Spells c n body item) (sym (k refl)) (read_takes c body item h e)
-    second false k e = third (eqb kind 5) (eqb-true kind 5) e
-
-    first : (is_append : Bool) → (is_append ≡ true → kind ≡ 1)
-        → cond is_append (append_of c body) (cond (eqb kind 2) (read_of c body) (cond (eqb kind 5) (add_of c body) None)) ≡ Some item
-        → Spells c kind body item
-    first true k e = subst (λ (n : ℕ). Spells c n body item) (sym (k refl)) (append_takes c body item h e)
-    first false k e = second (eqb kind 2) (eqb-true kind 2) e
+item_takes c kind body item h =
+    one_kind c kind 1 body item (append_of c body) _ (append_takes c body item h)
+    (one_kind c kind 2 body item (read_of c body) _ (read_takes c body item h)
+    (one_kind c kind 4 body item (trim_of body) _ (trim_takes c body item h)
+    (one_kind c kind 5 body item (add_of c body) _ (add_takes c body item h)
+    (one_kind c kind 6 body item (finalise_of c body) _ (finalise_takes c body item h) (λ e. cc)))))
 
 -- ---- what is spelled is read again
 
@@ -138,6 +165,21 @@ read_again c lane shard replica position range l s r p =
     ∙ ap (λ (n : ℕ). Some (Read lane (record { 0 = n }) (record { 0 = replica }) (record { 0 = number8 (lane ∷ be2 shard ++ replica ∷ be8 position) 4 }))) named.0
     ∙ ap (λ (n : ℕ). Some (Read lane (record { 0 = shard }) (record { 0 = replica }) (record { 0 = n }))) place
 
+trim_found : (body : List ℕ) → length body ≡ 9 → get_or body 0 0 < 64
+    → trim_of body ≡ Some (Trim (get_or body 0 0) (record { 0 = number8 body 1 }))
+unfolding trim_of
+trim_found body size lane =
+    cond-true (eqb (length body) 9 && ltb (get_or body 0 0) 64) _ _ (and_from _ _ (eq-eqb (length body) 9 size) (lt-ltb _ 64 lane))
+
+trim_again : (lane position : ℕ) → lane < 64 → position < 2 ^ 64
+    → trim_of (lane ∷ be8 position) ≡ Some (Trim lane (record { 0 = position }))
+trim_again lane position l p =
+    let at_end = number8-be8 position 1 (lane ∷ []) [] refl p in
+    let place : number8 (lane ∷ be8 position) 1 ≡ position =
+    subst (λ (l : List ℕ). number8 (lane ∷ l) 1 ≡ position) (append-nil (be8 position)) at_end in
+    trim_found (lane ∷ be8 position) (omega (arith, length-be8 position)) l
+    ∙ ap (λ (n : ℕ). Some (Trim lane (record { 0 = n }))) place
+
 add_found : (c : Shape) (body : List ℕ) → length body ≡ 3 → names_shard c body ≡ true
     → add_of c body ≡ Some (Add (get_or body 0 0) (record { 0 = number2 body 1 }))
 unfolding add_of
@@ -151,8 +193,23 @@ add_again c lane shard range l s =
     let named = names_shard_again c lane shard [] range l s in
     add_found c (lane ∷ be2 shard) refl named.1 ∙ ap (λ (n : ℕ). Some (Add lane (record { 0 = n }))) named.0
 
+finalise_found : (c : Shape) (body : List ℕ) → length body ≡ 3 → names_shard c body ≡ true
+    → finalise_of c body ≡ Some (Finalise (get_or body 0 0) (record { 0 = number2 body 1 }))
+unfolding finalise_of
+finalise_found c body size named =
+    cond-true (eqb (length body) 3 && names_shard c body) _ _ (and_from _ _ (eq-eqb (length body) 3 size) named)
+
+finalise_again : (c : Shape) (lane shard : ℕ) → InRange c → lane < 64 → shard < c.shards
+    → finalise_of c (lane ∷ be2 shard) ≡ Some (Finalise lane (record { 0 = shard }))
+unfolding be2
+finalise_again c lane shard range l s =
+    let named = names_shard_again c lane shard [] range l s in
+    finalise_found c (lane ∷ be2 shard) refl named.1 ∙ ap (λ (n : ℕ). Some (Finalise lane (record { 0 = n }))) named.0
+
 pub item_again : (c : Shape) (item : Item) → InRange c → IsItem c item → item_of c (item_kind item) (item_body item) ≡ Some item
 unfolding item_of
 item_again c (Append lane shard replica bytes) range is = append_again c lane shard.0 replica.0 bytes range is.0 is.1 is.2 is.3
 item_again c (Read lane shard replica position) range is = read_again c lane shard.0 replica.0 position.0 range is.0 is.1 is.2 is.3
+item_again c (Trim lane position) range is = trim_again lane position.0 is.0 is.1
 item_again c (Add lane shard) range is = add_again c lane shard.0 range is.0 is.1
+item_again c (Finalise lane shard) range is = finalise_again c lane shard.0 range is.0 is.1

@@ -3,7 +3,7 @@ use Rattle.std.specs.Prelude.{ℕ, Bool, List, length, drop, slice_index, nat_lt
 use Rattle.log_base.specs.ClusterShape.{Shape}
 use Rattle.log_base.specs.Wide.{number2, number8}
 use Rattle.command_frame.specs.declared.items.Item.{Item}
-use Rattle.command_frame.specs.declared.items.Item.TheVariants.{Append, Read, Add}
+use Rattle.command_frame.specs.declared.items.Item.TheVariants.{Append, Read, Trim, Add, Finalise}
 
 -- the body's lane is one of 64, and its shard is one of the config
 abbrev pub names_shard : Shape → List ℕ → Bool
@@ -27,6 +27,13 @@ read_of shape body =
     then Some (Read (slice_index body 0) (record { 0 = number2 body 1 }) (record { 0 = slice_index body 3 }) (record { 0 = number8 body 4 }))
     else None
 
+-- a lane and a position, and no more
+unfoldable pub trim_of : List ℕ → Option Item
+trim_of body =
+    if length body == 9 && nat_lt (slice_index body 0) 64
+    then Some (Trim (slice_index body 0) (record { 0 = number8 body 1 }))
+    else None
+
 -- a lane and a shard, and no more
 unfoldable pub add_of : Shape → List ℕ → Option Item
 add_of shape body =
@@ -34,10 +41,19 @@ add_of shape body =
     then Some (Add (slice_index body 0) (record { 0 = number2 body 1 }))
     else None
 
+-- as an addition is
+unfoldable pub finalise_of : Shape → List ℕ → Option Item
+finalise_of shape body =
+    if length body == 3 && names_shard shape body
+    then Some (Finalise (slice_index body 0) (record { 0 = number2 body 1 }))
+    else None
+
 -- the kinds that are served
 unfoldable pub item_of : Shape → ℕ → List ℕ → Option Item
 item_of shape kind body =
     if kind == 1 then append_of shape body
     else if kind == 2 then read_of shape body
+    else if kind == 4 then trim_of body
     else if kind == 5 then add_of shape body
+    else if kind == 6 then finalise_of shape body
     else None

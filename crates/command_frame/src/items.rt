@@ -22,8 +22,18 @@ pub enum Item {
         replica: Replica,
         position: Position,
     },
+    /// Gives up the positions below this one, or below the end of the log where that comes first.
+    Trim {
+        lane: u8,
+        position: Position,
+    },
     /// Adds a shard to the log.
     Add {
+        lane: u8,
+        shard: Shard,
+    },
+    /// Finalises a shard: its segments grow no more.
+    Finalise {
         lane: u8,
         shard: Shard,
     },
@@ -36,7 +46,7 @@ pub fn record_length(item: &Item) -> u32
 {
     match item {
         Item::Append { bytes, .. } => bytes.get().len() as u32,
-        Item::Read { .. } | Item::Add { .. } => 0,
+        _ => 0,
     }
 }
 
@@ -49,6 +59,7 @@ pub fn spelled_length(item: &Item) -> u32
     match item {
         Item::Append { bytes, .. } => bytes.get().len() as u32 + 9,
         Item::Read { .. } => 17,
-        Item::Add { .. } => 8,
+        Item::Trim { .. } => 14,
+        Item::Add { .. } | Item::Finalise { .. } => 8,
     }
 }

@@ -2,7 +2,7 @@
 
 ghost use Rattle.std.specs.Prelude.{◌≡◌, ◌<◌, ◌≤◌, length, drop, slice_index, nat_lt, IfOk};
 ghost use Rattle.log_base.specs.Shape.{shape};
-ghost use Rattle.command_frame.specs.Reading.{names_shard, names_replica, append_of, read_of, add_of, item_of};
+ghost use Rattle.command_frame.specs.Reading.{names_shard, names_replica, append_of, read_of, trim_of, add_of, finalise_of, item_of};
 
 use crate::items::Item;
 use log_base::{Bytes, Config, Position, Replica, Shard, number_u16, number_u64};
@@ -29,7 +29,9 @@ fn read_kind(
     match kind {
         1 => read_append(alloc, config, body),
         2 => Ok(read_read(config, body)),
+        4 => Ok(read_trim(body)),
         5 => Ok(read_add(config, body)),
+        6 => Ok(read_finalise(config, body)),
         _ => Ok(None),
     }
 }
@@ -78,6 +80,19 @@ fn read_read(config: &Config, body: &[u8]) -> Option<Item>
     })
 }
 
+#[tactic(auto, unfolding(crate::specs::Reading::trim_of))]
+fn read_trim(body: &[u8]) -> Option<Item>
+    ensures { result ≡ trim_of body.now }
+{
+    if body.len() != 9 || body[0] >= 64 {
+        return None;
+    }
+    Some(Item::Trim {
+        lane: body[0],
+        position: Position(number_u64(body, 1)),
+    })
+}
+
 #[tactic(auto, unfolding(crate::specs::Reading::add_of))]
 fn read_add(config: &Config, body: &[u8]) -> Option<Item>
     ensures { result ≡ add_of (shape config.now) body.now }
@@ -86,6 +101,19 @@ fn read_add(config: &Config, body: &[u8]) -> Option<Item>
         return None;
     }
     Some(Item::Add {
+        lane: body[0],
+        shard: Shard(number_u16(body, 1)),
+    })
+}
+
+#[tactic(auto, unfolding(crate::specs::Reading::finalise_of))]
+fn read_finalise(config: &Config, body: &[u8]) -> Option<Item>
+    ensures { result ≡ finalise_of (shape config.now) body.now }
+{
+    if body.len() != 3 || !is_of_shard(config, body) {
+        return None;
+    }
+    Some(Item::Finalise {
         lane: body[0],
         shard: Shard(number_u16(body, 1)),
     })
