@@ -10,6 +10,8 @@ An item is one of
     add SHARD
     append SHARD.REPLICA RECORD
     read SHARD.REPLICA @POSITION
+    trim POSITION
+    finalise SHARD
 
 with `lane N:` before it where the lane is not 0. A record is text in quotes, with the escapes \\n \\t \\\\ \\" \\xHH, or
 `hex:` and pairs of hexadecimal digits. Empty lines are passed over.
@@ -130,13 +132,21 @@ def read(lane, rest):
     return frame(2, lane + place(where) + number(position[1:], 8, "a position"))
 
 
-VERBS = {"add": add, "append": append, "read": read}
+def trim(lane, rest):
+    return frame(4, lane + number(rest, 8, "a position"))
+
+
+def finalise(lane, rest):
+    return frame(6, lane + number(rest, 2, "a shard"))
+
+
+VERBS = {"add": add, "append": append, "read": read, "trim": trim, "finalise": finalise}
 
 
 def item_frame(line):
     found = ITEM.fullmatch(line.strip())
     if not found or found["verb"] not in VERBS:
-        raise Refused("add SHARD, append SHARD.REPLICA RECORD or read SHARD.REPLICA @POSITION")
+        raise Refused("add SHARD, append SHARD.REPLICA RECORD, read SHARD.REPLICA @POSITION, trim POSITION or finalise SHARD")
     lane = number(found["lane"] or "0", 1, "a lane")
     if lane[0] > 63:
         raise Refused("a lane: 0 to 63")
@@ -148,8 +158,12 @@ def item_text(frame_bytes):
     kind, lane, body = frame_bytes[4], frame_bytes[5], frame_bytes[6:]
     shard = int.from_bytes(body[:2], "big")
     prefix = f"lane {lane}: " if lane else ""
+    if kind == 4:
+        return f"{prefix}trim {int.from_bytes(body, 'big')}"
     if kind == 5:
         return f"{prefix}add {shard}"
+    if kind == 6:
+        return f"{prefix}finalise {shard}"
     if kind == 1:
         return f"{prefix}append {shard}.{body[2]} {record_text(body[3:])}"
     return f"{prefix}read {shard}.{body[2]} @{int.from_bytes(body[3:], 'big')}"

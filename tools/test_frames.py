@@ -19,6 +19,10 @@ ITEMS = [
     ('append 0.0 "\\n\\t\\\\\\"\\xff"', "0000000a 01 00 0000 00 0a095c22ff"),
     ("read 0.0 @0", "0000000d 02 00 0000 00 0000000000000000"),
     ("read 2.1 @18446744073709551615", "0000000d 02 00 0002 01 ffffffffffffffff"),
+    ("trim 2", "0000000a 04 00 0000000000000002"),
+    ("lane 63: trim 18446744073709551615", "0000000a 04 3f ffffffffffffffff"),
+    ("finalise 0", "00000004 06 00 0000"),
+    ("lane 1: finalise 258", "00000004 06 01 0102"),
 ]
 
 # A reply's frame, and its text.
@@ -113,6 +117,11 @@ BAD_LINES = [
     ("append 0.0 hex:6", "a record"),
     ("read 0.0 0", "@POSITION"),
     ("read 0.0 @18446744073709551616", "a position"),
+    ("trim", "a position"),
+    ("trim @2", "a position"),
+    ("trim 18446744073709551616", "a position"),
+    ("finalise", "a shard"),
+    ("finalise 0.0", "a shard"),
 ]
 
 # Bytes that are no reply's frames, what is shown before them, and a word of the fault.

@@ -26,6 +26,22 @@ const ADD: &[u8] = b"\0\0\0\x04\x05\0\0\0";
 pub(crate) const ADD_APPEND_READ: &[u8] =
     b"\0\0\0\x04\x05\0\0\0\0\0\0\x06\x01\0\0\0\0a\0\0\0\x0d\x02\0\0\0\0\0\0\0\0\0\0\0\0";
 
+// Add 0, Append "a", Finalise 0, Append "b", Read @0.
+const FINALISED: &[u8] =
+    b"\0\0\0\x04\x05\0\0\0\0\0\0\x06\x01\0\0\0\0a\0\0\0\x04\x06\0\0\0\0\0\0\x06\x01\0\0\0\0b\0\0\0\x0d\x02\0\0\0\0\0\0\0\0\0\0\0\0";
+
+// Settled at slot 0, at position 0, settled at slot 2, finalised, and the first record found.
+const FINALISED_ANSWERED: &[u8] =
+    b"\0\0\0\x07\x40\0\x14\0\0\0\0\0\0\0\x0b\x40\0\x02\0\0\0\0\0\0\0\0\0\0\0\x07\x40\0\x14\0\0\0\x02\0\0\0\x03\x40\0\x07\0\0\0\x1a\x40\0\x03\0\0\0\0\0\0\0\0\0\0\0\0\0\x01\0\0\0\0\0\0\0\x01a";
+
+// Add 0, Append "p", Trim 1, Read @0, Finalise 1.
+const TRIMMED: &[u8] =
+    b"\0\0\0\x04\x05\0\0\0\0\0\0\x06\x01\0\0\0\0p\0\0\0\x0a\x04\0\0\0\0\0\0\0\0\x01\0\0\0\x0d\x02\0\0\0\0\0\0\0\0\0\0\0\0\0\0\0\x04\x06\0\0\x01";
+
+// Settled at slot 0, at position 0, settled at slot 2, trimmed up to 1, and no such shard.
+const TRIMMED_ANSWERED: &[u8] =
+    b"\0\0\0\x07\x40\0\x14\0\0\0\0\0\0\0\x0b\x40\0\x02\0\0\0\0\0\0\0\0\0\0\0\x07\x40\0\x14\0\0\0\x02\0\0\0\x0b\x40\0\x0f\0\0\0\0\0\0\0\x01\0\0\0\x03\x40\0\x12";
+
 // Settled at slot 0, at position 0, and the record found there.
 const SETTLED_AT_FOUND: &[u8] =
     b"\0\0\0\x07\x40\0\x14\0\0\0\0\0\0\0\x0b\x40\0\x02\0\0\0\0\0\0\0\0\0\0\0\x1a\x40\0\x03\0\0\0\0\0\0\0\0\0\0\0\0\0\x01\0\0\0\0\0\0\0\x01a";
@@ -58,6 +74,10 @@ const FOUND_AT: &[u8] =
 const HEAD: &[u8] = b"\0\0\0\x09\x60\x02\x02\x03\x01\0\0\0\x01";
 
 const SECOND_HEAD: &[u8] = b"\0\0\0\x09\x60\x02\x02\x03\x01\0\0\0\x02";
+
+// Orderer 0 leads, and its first letter prepares ballot 6.
+const LEADS_AGAIN: &[u8] =
+    b"\x62\0\x05\x04\0\x03\0\x05\0\0\0\x0d\x05\0\0\0\0\0\0\0\x06\0\0\0\0";
 
 // The entry of an append of a, behind its open gate, and a closed gate.
 const ENTRY: &[u8] = b"\x01\0\0\0\x10\x01\0\0\0\0\0\x01\0\0\0\0\0\0\0\x01a\0";
@@ -136,6 +156,8 @@ fn inputs_are_answered(rt: HostRuntime) -> Result<(), Fail> {
             EMPTY_RECORD_ANSWERED,
             Some(118),
         ),
+        ("a finalised shard", FINALISED, FINALISED_ANSWERED, None),
+        ("a trimmed log", TRIMMED, TRIMMED_ANSWERED, None),
     ];
     for (name, input, replies, events) in table {
         let outcome = run_anew(&rt, &RUN, input)?;
@@ -196,6 +218,8 @@ fn disks_go_on(rt: HostRuntime) -> Result<(), Fail> {
     let history = &second.sent[FOUND_AT.len()..];
     assert!(rt; history.starts_with(SECOND_HEAD));
     assert_eq!(rt; count_frames(history, KEPT), 11);
+    let mut led = history.windows(LEADS_AGAIN.len());
+    assert!(rt; led.any(|bytes| bytes.starts_with(LEADS_AGAIN)));
     Ok(())
 }
 

@@ -7,7 +7,7 @@ use Rattle.log_base.specs.declared.numbers.Replica.{Replica}
 use Rattle.log_base.specs.declared.numbers.Shard.{Shard}
 use Rattle.record_frame.specs.declared.values.Value.{Value}
 use Rattle.command_frame.specs.declared.items.Item.{Item}
-use Rattle.command_frame.specs.declared.items.Item.TheVariants.{Append, Read, Add}
+use Rattle.command_frame.specs.declared.items.Item.TheVariants.{Append, Read, Trim, Add, Finalise}
 use Rattle.reply_frame.specs.declared.replies.Reply.{Reply, Stored, Down, Elsewhere, Taken, NotLeading, NoLeader}
 use Rattle.history_frame.specs.declared.events.Event.{Event}
 use Rattle.history_frame.specs.declared.events.Sent.{Sent}
@@ -17,10 +17,10 @@ use Rattle.serial_schedule.specs.declared.duties.Awaited.{Awaited}
 use Rattle.serial_schedule.specs.declared.duties.Awaited.TheVariants.{Storing, Requesting, Reading, Last}
 use Rattle.serial_schedule.specs.declared.duties.Duty.{Duty}
 use Rattle.serial_schedule.specs.declared.duties.Duty.TheVariants.{Give, DeliverAll, MakeCall}
-use Rattle.serial_schedule.specs.Courses.{course_of, reading_at, request}
+use Rattle.serial_schedule.specs.Courses.{beginning, course_of, reading_at, request}
 use Rattle.serial_schedule.specs.Driven.{after_event, after_events}
 use Rattle.serial_schedule.specs.Noting.{course_or_none, duties_with, replies_with}
-use Rattle.serial_schedule.specs.Scheduling.{Scheduled, Waiting, at_first, begun, delivery, due, first_step, given, is_done, is_first_done, is_idle, next_turn, noted, passed, ready, ready_with, rest_in, turn_in}
+use Rattle.serial_schedule.specs.Scheduling.{Scheduled, Waiting, at_first, begun, delivery, drawn, due, first_step, given, is_done, is_first_done, is_idle, next_turn, noted, passed, ready, ready_with, rest_in, taken, turn_in}
 use Rattle.serial_schedule.proofs.Along.{along, ready-keeps}
 use Rattle.serial_schedule.proofs.Kept.{noted-parts}
 use Rattle.serial_schedule.proofs.Ready.{begun-items}
@@ -49,7 +49,7 @@ pub record IsCounted (count : ℕ) (s : Scheduled) : Type 0 where
   pub all : counted s ≡ count
   pub none : s.awaited ≡ None
 
--- ---- up to the next turn
+-- ---- what is passed over
 
 chosen-calls : (queue : List Waiting) (duty : Duty) (duties : List Duty) (done : Bool) → is_done queue duty ≡ done → calls_in (due queue duties) ≡ calls_in duties
     → calls_in (cond done (due queue duties) (duty ∷ duties)) ≡ call_in duty + calls_in duties
@@ -65,29 +65,7 @@ due-calls queue (duty ∷ duties) = chosen-calls queue duty duties (is_done queu
 passed-counted : (count : ℕ) (s : Scheduled) → IsCounted count s → IsCounted count (passed s)
 passed-counted count s h = record { all = let same = due-calls s.queue s.duties in let all : counted s ≡ count = h.all in omega arith; none = h.none }
 
-begun-counted : (count : ℕ) (s : Scheduled) (item : Item) (items : List Item) → s.items ≡ item ∷ items → IsCounted count s → IsCounted count (begun s item items)
-begun-counted count s (Append lane shard replica bytes) items left h =
-    record { all = let fewer = ap (λ (some : List Item). length some) left in let all : counted s ≡ count = h.all in omega arith; none = h.none }
-begun-counted count s (Read lane shard replica position) items left h =
-    record { all = let fewer = ap (λ (some : List Item). length some) left in let all : counted s ≡ count = h.all in omega arith; none = h.none }
-begun-counted count s (Add lane shard) items left h =
-    record { all = let fewer = ap (λ (some : List Item). length some) left in let all : counted s ≡ count = h.all in omega arith; none = h.none }
-
-pub ready-counted : (count : ℕ) (s : Scheduled) → IsCounted count s → IsCounted count (ready s)
-ready-counted count s h =
-    ready-keeps (IsCounted count) (passed-counted count) (λ x item items left idle p. begun-counted count x item items left p) s h
-
--- ---- an event
-
-delivery-counted : (s : Scheduled) (queue : List Waiting) → counted (rest_in s (delivery s queue)) ≡ counted s
-delivery-counted s [] = refl
-delivery-counted s (letter ∷ queue) = refl
-
-first-counted : (s : Scheduled) (duties : List Duty) → s.duties ≡ duties → s.awaited ≡ None → counted (rest_in s (first_step s duties)) ≡ counted s
-first-counted s [] e none = refl
-first-counted s (Give signal first count ∷ duties) e none = let same = ap calls_in e in omega arith
-first-counted s (DeliverAll ∷ duties) e none = delivery-counted s s.queue
-first-counted s (MakeCall node call awaited ∷ duties) e none = let same = ap calls_in e in let quiet = ap awaited_in none in omega arith
+-- ---- how an item goes
 
 -- an answer ends the item or makes one call due
 abbrev pub course_count : Course → ℕ
@@ -129,6 +107,43 @@ followed-count : (config : Shape) (awaited : Option Awaited) (reply : Reply) (du
     ≡ length replies + calls_in duties + awaited_in awaited
 followed-count config None reply duties replies = omega arith
 followed-count config (Some awaited) reply duties replies = with-count (course_of config awaited reply) duties replies ∙ ap (λ (n : ℕ). length replies + calls_in duties + n) (course_of-count config awaited reply)
+
+-- ---- up to the next turn
+
+beginning-count : (config : Shape) (run : ℕ) (draws : List ℕ) (item : Item) → course_count (beginning config run draws item) ≡ 1
+beginning-count config run draws (Append lane shard replica bytes) = refl
+beginning-count config run draws (Read lane shard replica position) = refl
+beginning-count config run draws (Trim lane position) = refl
+beginning-count config run draws (Add lane shard) = refl
+beginning-count config run draws (Finalise lane shard) = refl
+
+taken-counted : (count : ℕ) (s : Scheduled) (course : Course) → counted s + course_count course ≡ count → s.awaited ≡ None → IsCounted count (taken s course)
+taken-counted count s (Replies reply) all none =
+    record { all = let more : length (s.replies ++ reply ∷ []) ≡ length s.replies + 1 = length-append s.replies (reply ∷ []) in omega arith; none = none }
+taken-counted count s (GoesOn duties) all none = record { all = let more = calls_in-append duties s.duties in omega arith; none = none }
+
+begun-counted : (count : ℕ) (s : Scheduled) (item : Item) (items : List Item) → s.items ≡ item ∷ items → IsCounted count s → IsCounted count (begun s item items)
+begun-counted count s item items left h =
+    let one : course_count (beginning s.config s.run s.draws item) ≡ 1 = beginning-count s.config s.run s.draws item in
+    let fewer = ap (λ (some : List Item). length some) left in
+    let all : counted s ≡ count = h.all in
+    taken-counted count (record s { items = items; draws = drawn item s.draws }) (beginning s.config s.run s.draws item) (omega arith) h.none
+
+pub ready-counted : (count : ℕ) (s : Scheduled) → IsCounted count s → IsCounted count (ready s)
+ready-counted count s h =
+    ready-keeps (IsCounted count) (passed-counted count) (λ x item items left idle p. begun-counted count x item items left p) s h
+
+-- ---- an event
+
+delivery-counted : (s : Scheduled) (queue : List Waiting) → counted (rest_in s (delivery s queue)) ≡ counted s
+delivery-counted s [] = refl
+delivery-counted s (letter ∷ queue) = refl
+
+first-counted : (s : Scheduled) (duties : List Duty) → s.duties ≡ duties → s.awaited ≡ None → counted (rest_in s (first_step s duties)) ≡ counted s
+first-counted s [] e none = refl
+first-counted s (Give signal first count ∷ duties) e none = let same = ap calls_in e in omega arith
+first-counted s (DeliverAll ∷ duties) e none = delivery-counted s s.queue
+first-counted s (MakeCall node call awaited ∷ duties) e none = let same = ap calls_in e in let quiet = ap awaited_in none in omega arith
 
 noted-counted : (count : ℕ) (s : Scheduled) (outputs : List Sent) (reply : Reply) → counted s ≡ count → IsCounted count (noted s outputs reply)
 noted-counted count s outputs reply all =

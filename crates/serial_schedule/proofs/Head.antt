@@ -2,14 +2,16 @@
 use Rattle.std.proofs.Common.{◌≡◌, ℕ, List, [], ◌∷◌, sym, subst}
 use Rattle.log_base.specs.ClusterShape.{Shape}
 use Rattle.command_frame.specs.declared.items.Item.{Item}
-use Rattle.command_frame.specs.declared.items.Item.TheVariants.{Append, Read, Add}
 use Rattle.reply_frame.specs.declared.replies.Reply.{Reply}
 use Rattle.history_frame.specs.declared.events.Event.{Event}
 use Rattle.history_frame.specs.declared.events.Sent.{Sent}
+use Rattle.serial_schedule.specs.declared.courses.Course.{Course}
+use Rattle.serial_schedule.specs.declared.courses.Course.TheVariants.{Replies, GoesOn}
 use Rattle.serial_schedule.specs.declared.duties.Duty.{Duty}
 use Rattle.serial_schedule.specs.declared.duties.Duty.TheVariants.{Give, DeliverAll, MakeCall}
+use Rattle.serial_schedule.specs.Courses.{beginning}
 use Rattle.serial_schedule.specs.Driven.{after_event, after_events}
-use Rattle.serial_schedule.specs.Scheduling.{Scheduled, Waiting, begun, delivery, first_step, given, noted, ready, rest_in}
+use Rattle.serial_schedule.specs.Scheduling.{Scheduled, Waiting, begun, delivery, drawn, first_step, given, noted, ready, rest_in, taken}
 use Rattle.serial_schedule.proofs.Along.{along, ready-keeps}
 use Rattle.serial_schedule.proofs.Kept.{noted-parts}
 
@@ -17,10 +19,14 @@ pub record IsOf (config : Shape) (run : ℕ) (s : Scheduled) : Type 0 where
   pub config_is : s.config ≡ config
   pub run_is : s.run ≡ run
 
+taken-of : (config : Shape) (run : ℕ) (s : Scheduled) (course : Course) → IsOf config run s → IsOf config run (taken s course)
+taken-of config run s (Replies reply) h = record { config_is = h.config_is; run_is = h.run_is }
+taken-of config run s (GoesOn duties) h = record { config_is = h.config_is; run_is = h.run_is }
+
 begun-of : (config : Shape) (run : ℕ) (s : Scheduled) (item : Item) (items : List Item) → IsOf config run s → IsOf config run (begun s item items)
-begun-of config run s (Append lane shard replica bytes) items h = record { config_is = h.config_is; run_is = h.run_is }
-begun-of config run s (Read lane shard replica position) items h = record { config_is = h.config_is; run_is = h.run_is }
-begun-of config run s (Add lane shard) items h = record { config_is = h.config_is; run_is = h.run_is }
+begun-of config run s item items h =
+    taken-of config run (record s { items = items; draws = drawn item s.draws }) (beginning s.config s.run s.draws item)
+    (record { config_is = h.config_is; run_is = h.run_is })
 
 pub ready-of : (config : Shape) (run : ℕ) (s : Scheduled) → IsOf config run s → IsOf config run (ready s)
 ready-of config run s h =

@@ -2,6 +2,7 @@ pub mod Kept
 pub mod Ready
 pub mod Along
 pub mod Posted
+pub mod Beginning
 pub mod Counted
 pub mod Permitted
 pub mod Permitting

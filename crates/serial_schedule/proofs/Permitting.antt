@@ -11,10 +11,10 @@ use Rattle.log_base.specs.declared.numbers.Position.{Position}
 use Rattle.log_base.specs.declared.numbers.Replica.{Replica}
 use Rattle.log_base.specs.declared.numbers.Shard.{Shard}
 use Rattle.record_frame.specs.declared.values.Value.{Value}
-use Rattle.record_frame.specs.declared.values.Value.TheVariants.{Add as AddValue}
+use Rattle.record_frame.specs.declared.values.Value.TheVariants.{Add as AddValue, Finalise as FinaliseValue, Trim as TrimValue}
 use Rattle.record_frame.specs.Entries.{IsEntry, entry_of}
 use Rattle.command_frame.specs.declared.items.Item.{Item}
-use Rattle.command_frame.specs.declared.items.Item.TheVariants.{Append, Read, Add}
+use Rattle.command_frame.specs.declared.items.Item.TheVariants.{Append, Read, Trim, Add, Finalise}
 use Rattle.command_frame.specs.Items.{IsItem}
 use Rattle.reply_frame.specs.declared.replies.Reply.{Reply, Stored, Down, Elsewhere, Taken, NotLeading, NoLeader}
 use Rattle.history_frame.specs.declared.events.Event.{Event}
@@ -110,8 +110,25 @@ pub room-drawn : (draws : List ℕ) (lane count : ℕ) → HaveRoom draws (suc c
     → HaveRoom (slice_set draws lane (get_or draws lane 0 + 1)) count
 room-drawn draws lane count h within = λ k. room-at draws lane count k (h k) (h lane) within
 
-room-less : (draws : List ℕ) (count : ℕ) → HaveRoom draws (suc count) → HaveRoom draws count
+pub room-less : (draws : List ℕ) (count : ℕ) → HaveRoom draws (suc count) → HaveRoom draws count
 room-less draws count h = λ k. let room : get_or draws k 0 + suc count ≤ 65536 = h k in omega arith
+
+-- a value of the cluster is requested
+wished-permitted : (s : Scheduled) (item : Item) (items : List Item) (client : Client) (value : Value) → s.items ≡ item ∷ items → IsWish s.config value
+    → AllPermitted s → AllPermitted (record s { items = items; duties = request s.config 0 client value ∷ s.duties })
+wished-permitted s item items client value left wish h =
+    let all = subst (AllByRecursion (IsItem s.config)) left h.items in
+    let room = subst (λ (some : List Item). HaveRoom s.draws (length some)) left h.room in
+    let some : 0 < s.config.orderers = let odd = h.range.odd in omega arith in
+    record {
+      range = h.range;
+      run_fits = h.run_fits;
+      items = all.1;
+      duties = (((orderer-is s.config 0 some, wish), (some, wish)), h.duties);
+      answer = h.answer;
+      lanes = h.lanes;
+      room = room-less s.draws (length items) room;
+    }
 
 pub begun-permitted : (s : Scheduled) (item : Item) (items : List Item) → s.items ≡ item ∷ items → AllPermitted s → AllPermitted (begun s item items)
 begun-permitted s (Append lane shard replica bytes) items left h =
@@ -150,23 +167,19 @@ begun-permitted s (Read lane shard replica position) items left h =
       lanes = h.lanes;
       room = room-less s.draws (length items) room;
     }
+begun-permitted s (Trim lane position) items left h =
+    let all = subst (AllByRecursion (IsItem s.config)) left h.items in
+    wished-permitted s (Trim lane position) items (client_of lane) (TrimValue position) left (record { requested = tt; valid = all.0.1; of_config = tt }) h
 begun-permitted s (Add lane shard) items left h =
     let all = subst (AllByRecursion (IsItem s.config)) left h.items in
-    let is = all.0 in
-    let room = subst (λ (some : List Item). HaveRoom s.draws (length some)) left h.room in
     let few : s.config.shards ≤ 8 = h.range.shards in
-    let below : shard.0 < s.config.shards = is.1 in
-    let some : 0 < s.config.orderers = let odd = h.range.odd in omega arith in
-    let wish : IsWish s.config (AddValue shard) = record { requested = tt; valid = omega arith; of_config = below } in
-    record {
-      range = h.range;
-      run_fits = h.run_fits;
-      items = all.1;
-      duties = (((orderer-is s.config 0 some, wish), (some, wish)), h.duties);
-      answer = h.answer;
-      lanes = h.lanes;
-      room = room-less s.draws (length items) room;
-    }
+    let below : shard.0 < s.config.shards = all.0.1 in
+    wished-permitted s (Add lane shard) items (client_of lane) (AddValue shard) left (record { requested = tt; valid = omega arith; of_config = below }) h
+begun-permitted s (Finalise lane shard) items left h =
+    let all = subst (AllByRecursion (IsItem s.config)) left h.items in
+    let few : s.config.shards ≤ 8 = h.range.shards in
+    let below : shard.0 < s.config.shards = all.0.1 in
+    wished-permitted s (Finalise lane shard) items (client_of lane) (FinaliseValue shard) left (record { requested = tt; valid = omega arith; of_config = below }) h
 
 pub passed-permitted : (s : Scheduled) → AllPermitted s → AllPermitted (passed s)
 passed-permitted s h = record {

@@ -4,18 +4,20 @@ use Rattle.std.specs.List.{AllByRecursion}
 use Rattle.log_base.proofs.Legal.{at_longer}
 use Rattle.log_base.specs.ClusterShape.{Shape}
 use Rattle.command_frame.specs.declared.items.Item.{Item}
-use Rattle.command_frame.specs.declared.items.Item.TheVariants.{Append, Read, Add}
 use Rattle.history_frame.specs.declared.events.Event.{Event}
 use Rattle.history_frame.specs.declared.events.Sent.{Sent}
 use Rattle.node_model.specs.Histories.{IsDelivered, IsSent}
+use Rattle.serial_schedule.specs.declared.courses.Course.{Course}
+use Rattle.serial_schedule.specs.declared.courses.Course.TheVariants.{Replies, GoesOn}
 use Rattle.serial_schedule.specs.declared.duties.Duty.{Duty}
 use Rattle.serial_schedule.specs.declared.duties.Duty.TheVariants.{Give, DeliverAll, MakeCall}
 use Rattle.serial_schedule.specs.declared.duties.Signal.{Signal}
 use Rattle.serial_schedule.specs.declared.duties.Signal.TheVariants.{Restart, Lead, Tick}
 use Rattle.serial_schedule.specs.declared.turns.Turn.{Turn}
+use Rattle.serial_schedule.specs.Courses.{beginning}
 use Rattle.serial_schedule.specs.Driven.{after_event, after_events}
 use Rattle.serial_schedule.specs.Duties.{signal_input}
-use Rattle.serial_schedule.specs.Scheduling.{Scheduled, Waiting, at_first, begun, delivery, first_step, given, letters_from, next_turn, noted, ready, rest_in, turn_in}
+use Rattle.serial_schedule.specs.Scheduling.{Scheduled, Waiting, at_first, begun, delivery, drawn, first_step, given, letters_from, next_turn, noted, ready, rest_in, taken, turn_in}
 use Rattle.serial_schedule.proofs.Along.{along, ready-keeps, some_is}
 use Rattle.serial_schedule.proofs.Kept.{each-append, noted-parts}
 
@@ -66,10 +68,14 @@ new_letters before event place index front (sent ∷ outputs) here count all = (
 
 -- ---- what a schedule keeps
 
+taken-posted : (events : List Event) (s : Scheduled) (course : Course) → ArePosted events s → ArePosted events (taken s course)
+taken-posted events s (Replies reply) h = record { place = h.place; each = h.each }
+taken-posted events s (GoesOn duties) h = record { place = h.place; each = h.each }
+
 begun-posted : (events : List Event) (s : Scheduled) (item : Item) (items : List Item) → ArePosted events s → ArePosted events (begun s item items)
-begun-posted events s (Append lane shard replica bytes) items h = record { place = h.place; each = h.each }
-begun-posted events s (Read lane shard replica position) items h = record { place = h.place; each = h.each }
-begun-posted events s (Add lane shard) items h = record { place = h.place; each = h.each }
+begun-posted events s item items h =
+    taken-posted events (record s { items = items; draws = drawn item s.draws }) (beginning s.config s.run s.draws item)
+    (record { place = h.place; each = h.each })
 
 pub ready-posted : (events : List Event) (s : Scheduled) → ArePosted events s → ArePosted events (ready s)
 ready-posted events s h =

@@ -2,9 +2,11 @@
 use Rattle.std.proofs.Common.{◌≡◌, ◌&&◌, length, nat_lt, Bool, true, false, cond, List, [], ◌∷◌, refl, ap, sym, ◌∙◌, arith}
 use Rattle.std.proofs.lemmas.Bool.{lt-ltb}
 use Rattle.command_frame.specs.declared.items.Item.{Item}
-use Rattle.command_frame.specs.declared.items.Item.TheVariants.{Append, Read, Add}
+use Rattle.serial_schedule.specs.declared.courses.Course.{Course}
+use Rattle.serial_schedule.specs.declared.courses.Course.TheVariants.{Replies, GoesOn}
 use Rattle.serial_schedule.specs.declared.duties.Duty.{Duty}
-use Rattle.serial_schedule.specs.Scheduling.{Scheduled, Waiting, begun, begun_next, due, is_done, is_first_done, is_idle, passed, ready, ready_with}
+use Rattle.serial_schedule.specs.Courses.{beginning}
+use Rattle.serial_schedule.specs.Scheduling.{Scheduled, Waiting, begun, begun_next, drawn, due, is_done, is_first_done, is_idle, passed, ready, ready_with, taken}
 
 -- where the first duty is not done, nothing is passed over
 pub due-stops : (queue : List Waiting) (duties : List Duty) → is_first_done queue duties ≡ false → due queue duties ≡ duties
@@ -37,11 +39,13 @@ ready_with-passed s (item ∷ items) =
 pub ready-passed : (s : Scheduled) → ready (passed s) ≡ ready s
 ready-passed s = ready_with-passed s s.items
 
+taken-items : (s : Scheduled) (course : Course) → (taken s course).items ≡ s.items
+taken-items s (Replies reply) = refl
+taken-items s (GoesOn duties) = refl
+
 -- the items that are left when one begins
 pub begun-items : (s : Scheduled) (item : Item) (items : List Item) → (begun s item items).items ≡ items
-begun-items s (Append lane shard replica bytes) items = refl
-begun-items s (Read lane shard replica position) items = refl
-begun-items s (Add lane shard) items = refl
+begun-items s item items = taken-items (record s { items = items; draws = drawn item s.draws }) (beginning s.config s.run s.draws item)
 
 -- where nothing is due, the next item begins
 ready_with-begins : (s : Scheduled) (item : Item) (items : List Item) → passed s ≡ s → is_idle s ≡ true

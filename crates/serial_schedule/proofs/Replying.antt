@@ -8,7 +8,7 @@ use Rattle.log_base.specs.declared.numbers.Replica.{Replica}
 use Rattle.log_base.specs.declared.numbers.Shard.{Shard}
 use Rattle.record_frame.specs.declared.values.Value.{Value}
 use Rattle.command_frame.specs.declared.items.Item.{Item}
-use Rattle.command_frame.specs.declared.items.Item.TheVariants.{Append, Read, Add}
+use Rattle.command_frame.specs.declared.items.Item.TheVariants.{Append, Read, Trim, Add, Finalise}
 use Rattle.reply_frame.specs.declared.replies.Reply.{Reply, Stored, Down, Elsewhere, Taken, NotLeading, NoLeader}
 use Rattle.history_frame.specs.declared.events.Event.{Event}
 use Rattle.serial_schedule.specs.declared.courses.Course.{Course}
@@ -17,10 +17,10 @@ use Rattle.serial_schedule.specs.declared.duties.Awaited.{Awaited}
 use Rattle.serial_schedule.specs.declared.duties.Awaited.TheVariants.{Storing, Requesting, Reading, Last}
 use Rattle.serial_schedule.specs.declared.duties.Duty.{Duty}
 use Rattle.serial_schedule.specs.declared.duties.Duty.TheVariants.{Give, DeliverAll, MakeCall}
-use Rattle.serial_schedule.specs.Courses.{course_of, reading_at, request}
+use Rattle.serial_schedule.specs.Courses.{beginning, course_of, reading_at, request}
 use Rattle.serial_schedule.specs.Driven.{after_event, after_events, replies_of}
 use Rattle.serial_schedule.specs.Noting.{course_or_none, replies_with}
-use Rattle.serial_schedule.specs.Scheduling.{Scheduled, Waiting, at_first, begun, delivery, first_step, given, ready, rest_in}
+use Rattle.serial_schedule.specs.Scheduling.{Scheduled, Waiting, at_first, begun, delivery, drawn, first_step, given, ready, rest_in, taken}
 use Rattle.serial_schedule.proofs.Along.{ready-keeps}
 use Rattle.serial_schedule.proofs.Kept.{each-append, noted-parts}
 
@@ -59,10 +59,20 @@ module _ (P : Reply → Type 0) (no_leader : P NoLeader) where
   answer-good config None reply replies h rest = rest
   answer-good config (Some awaited) reply replies h rest = with-good (course_of config awaited reply) replies (course-good config awaited reply h) rest
 
+  taken-good : (s : Scheduled) (course : Course) → IsGood course → AllByRecursion P s.replies → AllByRecursion P (taken s course).replies
+  taken-good s (Replies reply) good h = each-append P s.replies (reply ∷ []) h (good, tt)
+  taken-good s (GoesOn duties) good h = h
+
+  beginning-good : (config : Shape) (run : ℕ) (draws : List ℕ) (item : Item) → IsGood (beginning config run draws item)
+  beginning-good config run draws (Append lane shard replica bytes) = tt
+  beginning-good config run draws (Read lane shard replica position) = tt
+  beginning-good config run draws (Trim lane position) = tt
+  beginning-good config run draws (Add lane shard) = tt
+  beginning-good config run draws (Finalise lane shard) = tt
+
   begun-good : (s : Scheduled) (item : Item) (items : List Item) → AllByRecursion P s.replies → AllByRecursion P (begun s item items).replies
-  begun-good s (Append lane shard replica bytes) items h = h
-  begun-good s (Read lane shard replica position) items h = h
-  begun-good s (Add lane shard) items h = h
+  begun-good s item items h =
+      taken-good (record s { items = items; draws = drawn item s.draws }) (beginning s.config s.run s.draws item) (beginning-good s.config s.run s.draws item) h
 
   ready-good : (s : Scheduled) → AllByRecursion P s.replies → AllByRecursion P (ready s).replies
   ready-good s h = ready-keeps (λ (x : Scheduled). AllByRecursion P x.replies) (λ x p. p) (λ x item items left idle p. begun-good x item items p) s h

@@ -9,7 +9,7 @@ use Rattle.log_base.specs.declared.numbers.Replica.{Replica}
 use Rattle.log_base.specs.declared.numbers.Shard.{Shard}
 use Rattle.record_frame.specs.declared.values.Value.{Value}
 use Rattle.command_frame.specs.declared.items.Item.{Item}
-use Rattle.command_frame.specs.declared.items.Item.TheVariants.{Append, Read, Add}
+use Rattle.command_frame.specs.declared.items.Item.TheVariants.{Append, Read, Trim, Add, Finalise}
 use Rattle.reply_frame.specs.declared.replies.Reply.{Reply, Stored, Down, Elsewhere, Taken, NotLeading, NoLeader}
 use Rattle.history_frame.specs.declared.events.Event.{Event}
 use Rattle.history_frame.specs.declared.events.Sent.{Sent}
@@ -24,11 +24,11 @@ use Rattle.serial_schedule.specs.declared.duties.Duty.{Duty}
 use Rattle.serial_schedule.specs.declared.duties.Duty.TheVariants.{Give, DeliverAll, MakeCall}
 use Rattle.serial_schedule.specs.declared.duties.Signal.TheVariants.{Restart, Lead, Tick}
 use Rattle.serial_schedule.specs.declared.turns.Turn.{Turn}
-use Rattle.serial_schedule.specs.Courses.{course_of, reading_at, request}
+use Rattle.serial_schedule.specs.Courses.{beginning, course_of, reading_at, request}
 use Rattle.serial_schedule.specs.Driven.{IsFollowed, after_event, after_events, next_turn_after, turn_of}
 use Rattle.serial_schedule.specs.Duties.{give}
 use Rattle.serial_schedule.specs.Noting.{course_or_none, duties_with}
-use Rattle.serial_schedule.specs.Scheduling.{Scheduled, Waiting, at_first, begun, delivery, first_step, given, is_first_done, next_turn, noted, ready, rest_in, turn_in}
+use Rattle.serial_schedule.specs.Scheduling.{Scheduled, Waiting, at_first, begun, delivery, drawn, first_step, given, is_first_done, next_turn, noted, ready, rest_in, taken, turn_in}
 use Rattle.serial_schedule.specs.Starts.{IsStartOf}
 use Rattle.serial_schedule.proofs.Along.{followed-along, ready-keeps, some_is}
 use Rattle.serial_schedule.proofs.Counted.{ready-undone}
@@ -95,10 +95,21 @@ noted-starts : (s : Scheduled) (outputs : List Sent) (reply : Reply) → AreNoSt
 noted-starts s outputs reply h =
     subst (λ (x : Scheduled). AreNoStarts x.duties) (sym (noted-parts s outputs reply)) (answer-starts s.config s.awaited reply s.duties h)
 
+beginning-starts : (config : Shape) (run : ℕ) (draws : List ℕ) (item : Item) → IsNoStartCourse (beginning config run draws item)
+beginning-starts config run draws (Append lane shard replica bytes) = (tt, tt)
+beginning-starts config run draws (Read lane shard replica position) = (tt, tt)
+beginning-starts config run draws (Trim lane position) = (tt, tt)
+beginning-starts config run draws (Add lane shard) = (tt, tt)
+beginning-starts config run draws (Finalise lane shard) = (tt, tt)
+
+taken-starts : (s : Scheduled) (course : Course) → IsNoStartCourse course → AreNoStarts s.duties → AreNoStarts (taken s course).duties
+taken-starts s (Replies reply) starts h = h
+taken-starts s (GoesOn duties) starts h = each-append IsNoStart duties s.duties starts h
+
 begun-starts : (s : Scheduled) (item : Item) (items : List Item) → AreNoStarts s.duties → AreNoStarts (begun s item items).duties
-begun-starts s (Append lane shard replica bytes) items h = (tt, h)
-begun-starts s (Read lane shard replica position) items h = (tt, h)
-begun-starts s (Add lane shard) items h = (tt, h)
+begun-starts s item items h =
+    taken-starts (record s { items = items; draws = drawn item s.draws }) (beginning s.config s.run s.draws item)
+    (beginning-starts s.config s.run s.draws item) h
 
 ready-starts : (s : Scheduled) → AreNoStarts s.duties → AreNoStarts (ready s).duties
 ready-starts s h =

@@ -16,7 +16,7 @@ use Rattle.record_frame.specs.declared.entries.Entry.{Entry}
 use Rattle.record_frame.specs.declared.values.Value.{Value}
 use Rattle.record_frame.specs.Entries.{entry_of}
 use Rattle.command_frame.specs.declared.items.Item.{Item}
-use Rattle.command_frame.specs.declared.items.Item.TheVariants.{Append, Read, Add}
+use Rattle.command_frame.specs.declared.items.Item.TheVariants.{Append}
 use Rattle.command_frame.specs.Items.{IsItem}
 use Rattle.reply_frame.specs.declared.replies.Reply.{Reply, Stored, Down, Elsewhere, Taken, NotLeading, NoLeader}
 use Rattle.history_frame.specs.declared.events.Event.{Event}
@@ -176,15 +176,10 @@ begun-readied before s (Append lane shard replica bytes) items left idle h =
       );
       permitted = begun-permitted s (Append lane shard replica bytes) items left h.permitted;
     }
-begun-readied before s (Read lane shard replica position) items left idle h = record {
+begun-readied before s item items left idle h = record {
   earlier = h.earlier;
   first = (tt, idle-plain s.duties idle);
-  permitted = begun-permitted s (Read lane shard replica position) items left h.permitted;
-}
-begun-readied before s (Add lane shard) items left idle h = record {
-  earlier = h.earlier;
-  first = (tt, idle-plain s.duties idle);
-  permitted = begun-permitted s (Add lane shard) items left h.permitted;
+  permitted = begun-permitted s item items left h.permitted;
 }
 
 pub ready-readied : (before : List Event) (s : Scheduled) → IsBetween before s → IsReadied before (ready s)

@@ -8,9 +8,9 @@ use Rattle.log_base.specs.declared.numbers.Number.{Number}
 use Rattle.log_base.specs.declared.numbers.Position.{Position}
 use Rattle.log_base.specs.declared.numbers.Replica.{Replica}
 use Rattle.record_frame.specs.declared.values.Value.{Value}
-use Rattle.record_frame.specs.declared.values.Value.TheVariants.{Add as AddValue}
+use Rattle.record_frame.specs.declared.values.Value.TheVariants.{Add as AddValue, Finalise as FinaliseValue, Trim as TrimValue}
 use Rattle.command_frame.specs.declared.items.Item.{Item}
-use Rattle.command_frame.specs.declared.items.Item.TheVariants.{Append, Read, Add}
+use Rattle.command_frame.specs.declared.items.Item.TheVariants.{Append, Read, Trim, Add, Finalise}
 use Rattle.reply_frame.specs.declared.replies.Reply.{Reply, Stored, Down, Elsewhere, Taken, NotLeading, NoLeader}
 use Rattle.history_frame.specs.declared.inputs.Call.TheVariants.{Submit, Ask, Read as ReadCall, Request, Settled}
 use Rattle.node_table.specs.Numbering.{orderer_node, storage_node}
@@ -77,11 +77,13 @@ course_of config _ reply = Replies reply
 abbrev pub next_number : ℕ → List ℕ → ℕ → Number
 next_number run draws lane = record { 0 = number_of_draw run (slice_index draws lane) }
 
--- How an item begins. An append is submitted to its primary, under the number that its lane draws next. An addition is requested
--- of orderer 0.
+-- How an item begins. An append is submitted to its primary, under the number that its lane draws next. A trim, an addition and a
+-- finalisation are requested of orderer 0.
 abbrev pub beginning : Shape → ℕ → List ℕ → Item → Course
 beginning config run draws (Append lane shard replica bytes) =
     GoesOn (submission (record { 0 = storage_node config shard.0 replica.0 }) (client_of lane) (next_number run draws lane) bytes ∷ [])
 beginning config run draws (Read lane shard replica position) =
     GoesOn (reading_at config shard.0 replica (client_of lane) position (Reading replica (client_of lane) position) ∷ [])
+beginning config run draws (Trim lane position) = GoesOn (request config 0 (client_of lane) (TrimValue position) ∷ [])
 beginning config run draws (Add lane shard) = GoesOn (request config 0 (client_of lane) (AddValue shard) ∷ [])
+beginning config run draws (Finalise lane shard) = GoesOn (request config 0 (client_of lane) (FinaliseValue shard) ∷ [])

@@ -4,7 +4,7 @@ use Rattle.std.specs.List.{AllByRecursion}
 use Rattle.log_base.specs.ClusterShape.{Shape}
 use Rattle.record_frame.specs.declared.refusals.Refusal.{Refusal}
 use Rattle.command_frame.specs.declared.items.Item.{Item}
-use Rattle.command_frame.specs.declared.items.Item.TheVariants.{Append, Read, Add}
+use Rattle.command_frame.specs.declared.items.Item.TheVariants.{Append}
 use Rattle.reply_frame.specs.declared.replies.Reply.{Reply, Stream'}
 use Rattle.command_frame.specs.Items.{IsItem}
 use Rattle.message_frame.specs.declared.messages.Message.{Message}
@@ -72,8 +72,7 @@ IsGiven (MakeCall node call awaited ∷ duties) = Unit {0}
 -- the lane of an append may draw one number more
 abbrev pub HasRoom : List ℕ → Item → Type 0
 HasRoom draws (Append lane shard replica bytes) = (lane < 64) × (slice_index draws lane < 65536)
-HasRoom draws (Read lane shard replica position) = Unit {0}
-HasRoom draws (Add lane shard) = Unit {0}
+HasRoom draws item = Unit {0}
 
 -- The items and the duties are the cluster's, and each lane has drawn so few numbers that the items that are left may draw each one.
 pub record IsKept (config : Shape) (run : ℕ) (items : List Item) (duties : List Duty) (awaited : Option Awaited) (draws : List ℕ) : Type 0 where

@@ -2,7 +2,7 @@
 use Rattle.std.specs.Prelude.{ℕ, ◌+◌, ◌-◌, List, [], ◌∷◌, ◌++◌, Bool, false, ◌==◌, length, slice_index, slice_set, replicate, if◌then◌else◌, Option, Some, None}
 use Rattle.log_base.specs.ClusterShape.{Shape}
 use Rattle.command_frame.specs.declared.items.Item.{Item}
-use Rattle.command_frame.specs.declared.items.Item.TheVariants.{Append, Read, Add}
+use Rattle.command_frame.specs.declared.items.Item.TheVariants.{Append}
 use Rattle.reply_frame.specs.declared.replies.Reply.{Reply}
 use Rattle.history_frame.specs.declared.events.Sent.{Sent}
 use Rattle.history_frame.specs.declared.inputs.Input.{Input}
@@ -60,8 +60,7 @@ taken s (GoesOn duties) = record s { duties = duties ++ s.duties }
 -- the lane of an append draws a number
 abbrev pub drawn : Item → List ℕ → List ℕ
 drawn (Append lane shard replica bytes) draws = slice_set draws lane (slice_index draws lane + 1)
-drawn (Read lane shard replica position) draws = draws
-drawn (Add lane shard) draws = draws
+drawn item draws = draws
 
 -- an item begins, and these are left
 abbrev pub begun : Scheduled → Item → List Item → Scheduled

@@ -4,7 +4,7 @@ ghost use Rattle.std.specs.Prelude.{◌≡◌, ◌≤◌, ◌<◌, [], ◌∷◌
 ghost use Rattle.log_base.specs.Draws.{number_of_draw};
 ghost use Rattle.log_base.specs.Shape.{shape};
 ghost use Rattle.command_frame.specs.Items.{IsItem};
-ghost use Rattle.serial_schedule.specs.Courses.{beginning, submission};
+ghost use Rattle.serial_schedule.specs.Courses.{beginning, client_of, reading_at, request, submission};
 ghost use Rattle.serial_schedule.specs.Keeping.{HasRoom};
 ghost use Rattle.serial_schedule.specs.Scheduling.{drawn};
 
@@ -13,7 +13,7 @@ use crate::courses::Course;
 use crate::duties::{Awaited, Duty};
 use command_frame::Item;
 use history_frame::Call;
-use log_base::{Bytes, Client, Config, Memory, NodeId, Number};
+use log_base::{Bytes, Client, Config, Memory, NodeId, Number, Position, Replica, Shard};
 use node_table::storage;
 use record_frame::Value;
 use std::alloc::Global;
@@ -48,14 +48,11 @@ pub fn first_duty(
             position,
         } => {
             let client = client_of(*lane);
-            let awaited = Awaited::Reading {
-                replica: *replica,
-                client,
-                position: *position,
-            };
-            Ok(reading(config, *shard, *replica, client, *position, awaited))
+            Ok(first_reading(config, *shard, *replica, client, *position))
         }
-        Item::Add { lane, shard } => Ok(request(config, 0, client_of(*lane), &Value::Add(*shard))),
+        Item::Trim { lane, position } => Ok(wish(config, *lane, Value::Trim(*position))),
+        Item::Add { lane, shard } => Ok(wish(config, *lane, Value::Add(*shard))),
+        Item::Finalise { lane, shard } => Ok(wish(config, *lane, Value::Finalise(*shard))),
     }
 }
 
@@ -71,9 +68,8 @@ pub fn draw(draws: &mut [u32; 64], item: &Item)
     requires { HasRoom draws.old item.now }
     ensures { draws.new ≡ drawn item.now draws.old }
 {
-    match item {
-        Item::Append { lane, .. } => draws[usize::from(*lane)] += 1,
-        Item::Read { .. } | Item::Add { .. } => {}
+    if let Item::Append { lane, .. } = item {
+        draws[usize::from(*lane)] += 1;
     }
 }
 
@@ -90,6 +86,33 @@ fn next_number(run: u32, drawn: u32) -> Number
     ensures { result.0 ≡ number_of_draw run drawn }
 {
     Number(u64::from(run) * 4_294_967_296 + u64::from(drawn))
+}
+
+/// The replica that an item names is asked for the entry at a position.
+fn first_reading(
+    config: &Config,
+    shard: Shard,
+    replica: Replica,
+    client: Client,
+    position: Position,
+) -> Duty
+    requires shard { shard.0 < (shape config.now).shards }
+    requires replica { replica.0 < (shape config.now).replicas }
+    ensures { result ≡ reading_at (shape config.now) shard.0 replica client position (Awaited.Reading replica client position) }
+{
+    let awaited = Awaited::Reading {
+        replica,
+        client,
+        position,
+    };
+    reading(config, shard, replica, client, position, awaited)
+}
+
+/// A value is requested of orderer 0 on a lane.
+fn wish(config: &Config, lane: u8, value: Value) -> Duty
+    ensures { result ≡ request (shape config.now) 0 (client_of lane) value }
+{
+    request(config, 0, client_of(lane), &value)
 }
 
 /// A record is submitted to its primary. Its bytes are copied.

@@ -14,6 +14,7 @@ use log_base::{
     Ballot, Bytes, Config, List, Memory, NodeId, Outbox, Position, Replica, Shard, Slot,
 };
 use message_frame::Message;
+use record_frame::Value;
 use std::alloc::Global;
 use std::test::Fail;
 
@@ -30,6 +31,7 @@ enum Says {
     NotAdded,
     Stored,
     Missing,
+    NoSuchShard,
 }
 
 impl Says {
@@ -47,6 +49,7 @@ impl Says {
             Says::NotAdded => Reply::NotAdded,
             Says::Stored => Reply::Stored { offset: 0 },
             Says::Missing => Reply::Missing,
+            Says::NoSuchShard => Reply::NoSuchShard,
         }
     }
 }
@@ -85,9 +88,9 @@ const SETTLING: [Row; 12] = [
 
 /// The third orderer takes the addition of a shard.
 const REQUESTED: [Row; 3] = [
-    (5, "request", Says::NotLeading),
-    (6, "request", Says::Down),
-    (7, "request", Says::Taken),
+    (5, "add", Says::NotLeading),
+    (6, "add", Says::Down),
+    (7, "add", Says::Taken),
 ];
 
 /// The addition is settled, the read goes on to shard 1, and the append is stored there.
@@ -101,7 +104,27 @@ const READ: [Row; 4] = [
 /// The first append is lost, and the second is refused.
 const ASKED: [Row; 2] = [(2, "ask", Says::Missing), (2, "submit", Says::NotAdded)];
 
-/// The kind of an input.
+/// The first orderer takes a trim.
+const TRIMMED: [Row; 1] = [(5, "trim", Says::Taken)];
+
+/// The trim is settled, and the finalisation is refused.
+const FINALISED: [Row; 2] = [
+    (5, "settled", Says::Settled),
+    (5, "finalise", Says::NoSuchShard),
+];
+
+/// The kind of a value.
+fn kind_of_value(value: &Value) -> &'static str {
+    match value {
+        Value::Noop => "noop",
+        Value::Cut(_) => "cut",
+        Value::Add(_) => "add",
+        Value::Finalise(_) => "finalise",
+        Value::Trim(_) => "trim",
+    }
+}
+
+/// The kind of an input, or of the value that it requests.
 fn kind_of(input: &Input) -> &'static str {
     match input {
         Input::Deliver { .. } => "deliver",
@@ -112,7 +135,7 @@ fn kind_of(input: &Input) -> &'static str {
         Input::Call(Call::Submit { .. }) => "submit",
         Input::Call(Call::Ask { .. }) => "ask",
         Input::Call(Call::Read { .. }) => "read",
-        Input::Call(Call::Request { .. }) => "request",
+        Input::Call(Call::Request { value, .. }) => kind_of_value(value),
         Input::Call(Call::Settled { .. }) => "settled",
     }
 }
@@ -195,8 +218,16 @@ fn runs_in_order(alloc: Global, schedule: &mut Schedule<'_>) -> Result<bool, Mem
     let read = settled && are_next(alloc, schedule, &READ)?;
     let again = read && are_next(alloc, schedule, &SETTLING)?;
     let asked = again && are_next(alloc, schedule, &ASKED)?;
-    Ok(asked && schedule.next()?.is_none())
+    let trimmed = asked && are_next(alloc, schedule, &TRIMMED)?;
+    let known = trimmed && are_next(alloc, schedule, &SETTLING)?;
+    let finalised = known && are_next(alloc, schedule, &FINALISED)?;
+    Ok(finalised && schedule.next()?.is_none())
 }
+
+/// The replies to the items.
+const REPLIES: &str =
+    "[Settled { slot: Slot(4) }, Trimmed { mark: Position(9) }, Missing, NotAdded, \
+    Settled { slot: Slot(4) }, NoSuchShard]";
 
 #[test]
 fn items_go_on(rt: HostRuntime) -> Result<(), Fail> {
@@ -214,12 +245,13 @@ fn items_go_on(rt: HostRuntime) -> Result<(), Fail> {
         },
         append(alloc)?,
         append(alloc)?,
+        Item::Trim { lane, position },
+        Item::Finalise { lane, shard },
     ];
     let mut schedule = Schedule::new(alloc, config, 1, &items)?;
     assert!(rt; runs_in_order(alloc, &mut schedule)?);
     let replies = format!(in alloc; "{:?}", schedule.into_replies())?;
-    let wanted = "[Settled { slot: Slot(4) }, Trimmed { mark: Position(9) }, Missing, NotAdded]";
-    assert_eq!(rt; replies.as_str(), wanted);
+    assert_eq!(rt; replies.as_str(), REPLIES);
     Ok(())
 }
 

@@ -1,0 +1,10 @@
+use Rattle.std.proofs.Common.{rules}
+use Rattle.log_base.specs.Shape.{shape}
+use Rattle.serial_schedule.proofs.Beginning.{begun-kept}
+use Rattle.serial_schedule.proofs.schedule.Schedule.begin.Goals as goal
+
+pub invariant_of-self-in-Some : goal.invariant_of-self-in-Some
+invariant_of-self-in-Some c =
+    begun-kept (shape c.self.inside.config) c.self.inside.run c.self.inside.items.now c.in-Some.items.now c.in-Some.item.now c.self.inside.duties.items
+    c.push_front_reserved.new.self.items c.in_ok-duty.duty c.self.inside.awaited c.self.inside.draws c.draw.new.draws
+    c.self.inside.config.in_range (search rules) c.in_ok-duty.ensures (cc) c.draw.ensures c.self.invariant
