@@ -1,5 +1,5 @@
 -- What the answers say in a coherent state: each position below the end has its entry, and an append has its position.
-use Rattle.std.proofs.Common.{◌≡◌, ℕ, ◌+◌, ◌<◌, ◌≤◌, true, false, ltb, List, [], ◌∷◌, ◌++◌, length, length-append, Option, Some, refl, sym, ap, ◌∙◌, subst, ⊎_elim, arith}
+use Rattle.std.proofs.Common.{◌≡◌, ℕ, ◌+◌, ◌<◌, ◌≤◌, true, false, ltb, List, [], ◌∷◌, ◌++◌, length, length-append, Option, None, Some, refl, sym, ap, ◌∙◌, subst, ⊎_elim, arith}
 use Rattle.std.specs.Prelude.{slice_get, slice_index, slice_index_or, option_and_then}
 use Rattle.std.specs.List.{Contains}
 use Rattle.std.proofs.lemmas.Bool.{cases_Bool, cases_eq, cases_lt, lt-ltb, le-ltb}
@@ -15,19 +15,20 @@ use Rattle.log_base.specs.declared.numbers.Replica.{Replica}
 use Rattle.log_base.specs.declared.numbers.Shard.{Shard}
 use Rattle.record_frame.specs.declared.entries.Entry.{Entry}
 use Rattle.record_frame.specs.declared.values.Value.TheVariants.{Cut}
-use Rattle.log_model.specs.Chain.{ChainState, ShardState, chain_of, is_added, covered_of, covered_length}
+use Rattle.log_model.specs.Chain.{ChainState, ShardState, Live, chain_of, is_added, covered_of, covered_length}
 use Rattle.log_model.specs.Lookup.{segment_index, entry_at_place, entry_at_position, position_of_place}
 use Rattle.log_model.specs.Places.{place_at}
 use Rattle.log_model.specs.Spelling.{spell}
-use Rattle.log_model.proofs.Appending.{end-chain_of}
+use Rattle.log_model.proofs.Appending.{chain_of-append, end-chain_of}
+use Rattle.log_model.proofs.Growth.{chain_of-IsChain}
 use Rattle.log_model.proofs.Spelled.{spelled_where_covered, position_is_index, position_stays, one_position}
 use Rattle.log_model.proofs.States.{state_of_added, state_of_not_added}
 use Rattle.command_frame.specs.declared.items.Item.TheVariants.{Append}
-use Rattle.reply_frame.specs.declared.replies.Reply.{Found, At}
+use Rattle.reply_frame.specs.declared.replies.Reply.{Found, At, NotAdded, PendingRead}
 use Rattle.command_frame.specs.Items.{IsItem}
-use Rattle.plain_log.specs.Log.{LogState, after, drawn, entries_of, knows, cut_of, next_entry, read_in, reply_to, stored}
+use Rattle.plain_log.specs.Log.{LogState, after, drawn, entries_of, knows, found_standing, standing_of, cut_of, next_entry, read_in, reply_to, stored}
 use Rattle.plain_log.proofs.Lists.{found_state, list_within, within_where_some}
-use Rattle.plain_log.specs.Coherent.{IsCoherent, IsCoherentState, IsUsual}
+use Rattle.plain_log.specs.Coherent.{IsCoherent, IsCoherentState, IsOfShape}
 use Rattle.plain_log.proofs.Coherent.{coherent_stored}
 
 -- A segment of which something is covered is one of the config.
@@ -37,10 +38,10 @@ covered_in_range shape chain segments s j is some =
     ⊎_elim
     (λ added.
     let there = state_of_added chain.shards s added in
-    let facts = found_state (IsUsual shape) chain.shards s there.0 is.shards there.1 in
+    let facts = found_state (IsOfShape shape) chain.shards s there.0 is.shards there.1 in
     let covered : covered_of chain s j ≡ slice_index there.0.covered j = ap (λ (found : Option ShardState). covered_length found j) there.1 in
     let within = within_where_some there.0.covered j (omega (arith, some, covered)) in
-    (subst (λ (n : ℕ). n < shape.shards) facts.1 facts.0.1, omega (arith, within, facts.0.2)))
+    (subst (λ (n : ℕ). n < shape.shards) facts.1 facts.0.0, omega (arith, within, facts.0.1)))
     (λ absent.
     let none = ap (λ (found : Option ShardState). covered_length found j) (state_of_not_added chain.shards s absent) in
     absurd (omega (arith, some, none)))
@@ -70,20 +71,19 @@ spelled_entry shape state place is spelled =
     )
 
 -- what is read where an entry stands
-pub read_where_stands : (shape : Shape) (state : LogState) (position : Position) (entry : Entry) → IsCoherentState shape state
-    → position.0 < (chain_of shape.replicas state.values).end
+pub read_where_stands : (shape : Shape) (state : LogState) (position : Position) (entry : Entry)
+    → (chain_of shape.replicas state.values).mark ≤ position.0 → position.0 < (chain_of shape.replicas state.values).end
     → entry_at_position shape.replicas state.values state.segments position.0 ≡ Some entry
     → read_in shape.replicas state position ≡ Found position entry
-read_where_stands shape state position entry is within stands =
-    let mark = is.mark in
-    let not_below : ltb position.0 0 ≡ false = le-ltb position.0 0 (omega arith) in
+read_where_stands shape state position entry from within stands =
+    let not_below : ltb position.0 (chain_of shape.replicas state.values).mark ≡ false = le-ltb position.0 _ from in
     let below : ltb position.0 (chain_of shape.replicas state.values).end ≡ true = lt-ltb position.0 _ within in
-    rw (mark, not_below, below, stands) refl
+    rw (not_below, below, stands) refl
 
 pub read_finds : (shape : Shape) (state : LogState) (position : Position) → IsCoherentState shape state
-    → position.0 < (chain_of shape.replicas state.values).end
+    → (chain_of shape.replicas state.values).mark ≤ position.0 → position.0 < (chain_of shape.replicas state.values).end
     → (entry : Entry) × (read_in shape.replicas state position ≡ Found position entry)
-read_finds shape state position is within =
+read_finds shape state position is from within =
     let places = spell shape.replicas state.values in
     let inside : position.0 < length places = omega (arith, within, end-chain_of shape.replicas state.values) in
     let place = slice_index_or places position.0 (place_at 0 0 0) in
@@ -91,7 +91,7 @@ read_finds shape state position is within =
     let found = spelled_entry shape state place is (Contains-get_or places position.0 (place_at 0 0 0) inside) in
     let there : entry_at_position shape.replicas state.values state.segments position.0 ≡ Some found.0 =
     ap (λ (at : Option Place). option_and_then (entry_at_place shape.replicas state.segments) at) stands ∙ found.1 in
-    (found.0, read_where_stands shape state position found.0 is within there)
+    (found.0, read_where_stands shape state position found.0 from within there)
 
 -- The list that an entry joins ends with it.
 grown_here : (shape : Shape) (state : LogState) (s j : ℕ) (entry : Entry) → s < shape.shards → j < shape.replicas → IsCoherentState shape state
@@ -104,12 +104,12 @@ grown_here shape state s j entry in_range within is =
 
 -- The entry that is stored stands at a position, which is that of its place.
 pub stored_position : (shape : Shape) (state : LogState) (s j : ℕ) (entry : Entry) → s < shape.shards → j < shape.replicas
-    → knows shape.replicas state s ≡ true → IsCoherentState shape state
+    → standing_of shape.replicas state s ≡ Some Live → IsCoherentState shape state
     → let next = stored shape.replicas state s j entry in
     (position : ℕ)
     × (position_of_place shape.replicas next.values (place_at s j (length (entries_of shape.replicas state s j))) ≡ Some position)
     × (entry_at_position shape.replicas next.values next.segments position ≡ Some entry)
-stored_position shape state s j entry in_range within known is =
+stored_position shape state s j entry in_range within live is =
     let replicas = shape.replicas in
     let index = segment_index replicas s j in
     let entries = entries_of replicas state s j in
@@ -117,7 +117,7 @@ stored_position shape state s j entry in_range within known is =
     let offset = length entries in
     let place = place_at s j offset in
     let places = spell replicas next.values in
-    let is_next = coherent_stored shape state s j entry known within is in
+    let is_next = coherent_stored shape state s j entry live within is in
     let list = grown_here shape state s j entry in_range within is in
     let longer : length (slice_index_or next.segments index []) ≡ offset + 1 =
     ap (λ (l : List Entry). length l) list ∙ length-append entries (entry ∷ []) in
@@ -137,17 +137,17 @@ stored_position shape state s j entry in_range within known is =
 
 -- Of what the cut with it covers, the entry's place is the only one.
 only_newest : (shape : Shape) (state : LogState) (s j : ℕ) (entry : Entry) → s < shape.shards → j < shape.replicas
-    → knows shape.replicas state s ≡ true → IsCoherentState shape state → (place : Place) (at : ℕ)
+    → standing_of shape.replicas state s ≡ Some Live → IsCoherentState shape state → (place : Place) (at : ℕ)
     → length (spell shape.replicas state.values) ≤ at
     → slice_get (spell shape.replicas (stored shape.replicas state s j entry).values) at ≡ Some place
     → place ≡ place_at s j (length (entries_of shape.replicas state s j))
-only_newest shape state s j entry in_range within known is place at behind stands =
+only_newest shape state s j entry in_range within live is place at behind stands =
     let replicas = shape.replicas in
     let index = segment_index replicas s j in
     let entries = entries_of replicas state s j in
     let next = stored replicas state s j entry in
     let places = spell replicas next.values in
-    let is_next = coherent_stored shape state s j entry known within is in
+    let is_next = coherent_stored shape state s j entry live within is in
     let t = place.shard.0 in
     let k = place.segment.0 in
     let covered = covered_of (chain_of replicas state.values) t k in
@@ -179,10 +179,10 @@ only_newest shape state s j entry in_range within known is place at behind stand
 
 -- The entry stands where the log ended.
 newest_position : (shape : Shape) (state : LogState) (s j : ℕ) (entry : Entry) → s < shape.shards → j < shape.replicas
-    → knows shape.replicas state s ≡ true → IsCoherentState shape state → (position : ℕ)
+    → standing_of shape.replicas state s ≡ Some Live → IsCoherentState shape state → (position : ℕ)
     → slice_get (spell shape.replicas (stored shape.replicas state s j entry).values) position ≡ Some (place_at s j (length (entries_of shape.replicas state s j)))
     → position ≡ (chain_of shape.replicas state.values).end
-newest_position shape state s j entry in_range within known is position stands =
+newest_position shape state s j entry in_range within live is position stands =
     let replicas = shape.replicas in
     let next = stored replicas state s j entry in
     let places = spell replicas next.values in
@@ -203,29 +203,51 @@ newest_position shape state s j entry in_range within known is position stands =
     (λ later. later) (cases_lt position (length before)) in
     let inside : length before < length places = omega (arith, not_earlier, slice_get_within places position place stands) in
     let first = slice_get-get_or places (length before) default inside in
-    let newest = only_newest shape state s j entry in_range within known is (slice_index_or places (length before) default) (length before) (omega arith) first in
+    let newest = only_newest shape state s j entry in_range within live is (slice_index_or places (length before) default) (length before) (omega arith) first in
     let both = one_position replicas next.values place (length before) position (first ∙ ap Some newest) stands in
     omega (arith, both, end-chain_of replicas state.values)
 
--- An append to a shard that was added is told where the log ended, and the entry is read there from then on.
+-- An append to a live shard is told where the log ended, and the entry is read there from then on.
 pub append_told : (shape : Shape) (run : ℕ) (state : LogState) (lane : ℕ) (shard : Shard) (replica : Replica) (bytes : List ℕ)
-    → IsItem shape (Append lane shard replica bytes) → knows shape.replicas state shard.0 ≡ true → IsCoherentState shape state
+    → IsItem shape (Append lane shard replica bytes) → standing_of shape.replicas state shard.0 ≡ Some Live → IsCoherentState shape state
     → let end : Position = record { 0 = (chain_of shape.replicas state.values).end } in
     (reply_to shape run state (Append lane shard replica bytes) ≡ At end)
     × (read_in shape.replicas (after shape run state (Append lane shard replica bytes)) end ≡ Found end (next_entry run state lane bytes))
-append_told shape run state lane shard replica bytes item known is =
+append_told shape run state lane shard replica bytes item live is =
+    let replicas = shape.replicas in
     let entry = next_entry run state lane bytes in
-    let next = stored shape.replicas (drawn state lane) shard.0 replica.0 entry in
-    let is_next = coherent_stored shape (drawn state lane) shard.0 replica.0 entry known item.2 is in
-    let told = stored_position shape (drawn state lane) shard.0 replica.0 entry item.1 item.2 known is in
-    let end : Position = record { 0 = (chain_of shape.replicas state.values).end } in
-    let place = place_at shard.0 replica.0 (length (entries_of shape.replicas state shard.0 replica.0)) in
-    let stands = (position_is_index shape.replicas next.values place told.0).0 told.1 in
-    let is_end : told.0 ≡ end.0 = newest_position shape (drawn state lane) shard.0 replica.0 entry item.1 item.2 known is told.0 stands in
-    let inside = slice_get_within (spell shape.replicas next.values) told.0 place stands in
-    let within : end.0 < (chain_of shape.replicas next.values).end = omega (arith, end-chain_of shape.replicas next.values, inside, is_end) in
-    let there : entry_at_position shape.replicas next.values next.segments end.0 ≡ Some entry =
-    subst (λ (n : ℕ). entry_at_position shape.replicas next.values next.segments n ≡ Some entry) is_end told.2 in
-    let read = read_where_stands shape next end entry is_next within there in
+    let next = stored replicas (drawn state lane) shard.0 replica.0 entry in
+    let told = stored_position shape (drawn state lane) shard.0 replica.0 entry item.1 item.2 live is in
+    let end : Position = record { 0 = (chain_of replicas state.values).end } in
+    let place = place_at shard.0 replica.0 (length (entries_of replicas state shard.0 replica.0)) in
+    let stands = (position_is_index replicas next.values place told.0).0 told.1 in
+    let is_end : told.0 ≡ end.0 = newest_position shape (drawn state lane) shard.0 replica.0 entry item.1 item.2 live is told.0 stands in
+    let inside = slice_get_within (spell replicas next.values) told.0 place stands in
+    let within : end.0 < (chain_of replicas next.values).end = omega (arith, end-chain_of replicas next.values, inside, is_end) in
+    let same_mark : (chain_of replicas next.values).mark ≡ (chain_of replicas state.values).mark =
+    ap (λ (chain : ChainState). chain.mark) (chain_of-append replicas state.values (Cut (cut_of next.segments) ∷ [])) in
+    let from : (chain_of replicas next.values).mark ≤ end.0 = omega (arith, same_mark, (chain_of-IsChain replicas state.values).mark) in
+    let there : entry_at_position replicas next.values next.segments end.0 ≡ Some entry =
+    subst (λ (n : ℕ). entry_at_position replicas next.values next.segments n ≡ Some entry) is_end told.2 in
+    let read = read_where_stands shape next end entry from within there in
     let reply = told.1 ∙ ap Some is_end in
-    (rw (known, reply) refl, rw known read)
+    (rw (live, reply) refl, rw live read)
+
+-- An append to a shard that was not added is refused.
+pub append_not_added : (shape : Shape) (run : ℕ) (state : LogState) (lane : ℕ) (shard : Shard) (replica : Replica) (bytes : List ℕ)
+    → knows shape.replicas state shard.0 ≡ false
+    → (reply_to shape run state (Append lane shard replica bytes) ≡ NotAdded)
+    × (after shape run state (Append lane shard replica bytes) ≡ drawn state lane)
+append_not_added shape run state lane shard replica bytes absent =
+    let none : standing_of shape.replicas state shard.0 ≡ None =
+    ap found_standing (state_of_not_added (chain_of shape.replicas state.values).shards shard.0 absent) in
+    (rw none refl, rw none refl)
+
+-- A read at the end or past it is told the end.
+pub read_past_end : (replicas : ℕ) (state : LogState) (position : Position) → (chain_of replicas state.values).end ≤ position.0
+    → read_in replicas state position ≡ PendingRead (record { 0 = (chain_of replicas state.values).end })
+read_past_end replicas state position past =
+    let not_below : ltb position.0 (chain_of replicas state.values).mark ≡ false =
+    le-ltb position.0 _ (omega (arith, past, (chain_of-IsChain replicas state.values).mark)) in
+    let not_before : ltb position.0 (chain_of replicas state.values).end ≡ false = le-ltb position.0 _ past in
+    rw (not_below, not_before) refl

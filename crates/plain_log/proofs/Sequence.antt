@@ -1,12 +1,12 @@
 -- Items answered one after another: those that follow go on from the state of those before.
-use Rattle.std.proofs.Common.{◌≡◌, ℕ, suc, ◌+◌, List, [], ◌∷◌, ◌++◌, length, take, drop, length-append, Option, Some, None, refl, ap, arith}
+use Rattle.std.proofs.Common.{◌≡◌, ℕ, suc, List, [], ◌∷◌, ◌++◌, length, take, drop, length-append, Option, Some, None, refl, ap, arith}
 use Rattle.std.proofs.lemmas.List.{length-take, length-drop}
 use Rattle.std.proofs.lemmas.Option.{slice_get_within}
 use Rattle.log_base.specs.ClusterShape.{Shape}
 use Rattle.command_frame.specs.declared.items.Item.{Item}
-use Rattle.reply_frame.specs.declared.replies.Reply.{Reply, Halted}
+use Rattle.reply_frame.specs.declared.replies.Reply.{Reply}
 use Rattle.plain_log.specs.Log.{LogState, start, after, log_of, replies_from, reply_to, state_after}
-use Rattle.plain_log.specs.Halting.{replies_down, decided_down, state_before, log_with_halt, IsHaltOf}
+use Rattle.plain_log.specs.Halting.{replies_down, replies_halted, after_down, state_before, log_with_halt, IsHaltOf}
 
 pub length-replies_from : (shape : Shape) (run : ℕ) (state : LogState) (items : List Item)
     → length (replies_from shape run state items) ≡ length items
@@ -25,23 +25,26 @@ pub state_after-append : (shape : Shape) (run : ℕ) (state : LogState) (items m
 state_after-append shape run state [] more = refl
 state_after-append shape run state (item ∷ items) more = state_after-append shape run (after shape run state item) items more
 
-pub length-replies_down : (decided : ℕ) (items : List Item) → length (replies_down decided items) ≡ length items
-length-replies_down decided [] = refl
-length-replies_down decided (item ∷ items) = ap suc (length-replies_down (decided_down decided item) items)
+pub length-replies_down : (shape : Shape) (run : ℕ) (state : LogState) (items : List Item) → length (replies_down shape run state items) ≡ length items
+length-replies_down shape run state [] = refl
+length-replies_down shape run state (item ∷ items) = ap suc (length-replies_down shape run (after_down shape run state item) items)
+
+length-replies_halted : (shape : Shape) (run : ℕ) (state : LogState) (items : List Item) → length (replies_halted shape run state items) ≡ length items
+length-replies_halted shape run state [] = refl
+length-replies_halted shape run state (item ∷ items) = ap suc (length-replies_down shape run (after_down shape run state item) items)
 
 pub length-log_with_halt : (shape : Shape) (run : ℕ) (items : List Item) (halt : Option ℕ) → IsHaltOf shape run items halt
     → length (log_with_halt shape run items halt) ≡ length items
 length-log_with_halt shape run items None is = length-replies_from shape run (start shape) items
 length-log_with_halt shape run items (Some at) is =
-    let decided = length (state_before shape run items at).values in
-    let rest = replies_down decided (drop (at + 1) items) in
+    let state = state_before shape run items at in
     let within = slice_get_within items at is.0 is.1 in
     omega (
       arith,
       within,
-      length-append (log_of shape run (take at items)) (Halted ∷ rest),
+      length-append (log_of shape run (take at items)) (replies_halted shape run state (drop at items)),
       length-replies_from shape run (start shape) (take at items),
-      length-replies_down decided (drop (at + 1) items),
+      length-replies_halted shape run state (drop at items),
       length-take at items,
-      length-drop (at + 1) items,
+      length-drop at items,
     )

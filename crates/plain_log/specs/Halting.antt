@@ -1,53 +1,49 @@
 -- The log of one thread on a disk that may fail. An append whose put fails is told so, and from then on the replica is
--- down: appends and reads are refused, and additions go on, since no disk of the replica keeps them.
-use Rattle.std.specs.Prelude.{◌≡◌, ℕ, ◌+◌, List, [], ◌∷◌, ◌++◌, length, take, drop, Bool, true, false, ◌==◌, ◌&&◌, if◌then◌else◌, Option, Some, None, option_and_then, slice_get, IfSome}
+-- down: appends and reads are refused, and additions, finalisations and trims go on, since no disk of the replica keeps them.
+use Rattle.std.specs.Prelude.{◌≡◌, ℕ, List, [], ◌∷◌, ◌++◌, length, take, drop, Bool, false, ◌==◌, ◌&&◌, if◌then◌else◌, Option, Some, None, option_and_then, slice_get, IfSome}
 use Rattle.log_base.specs.ClusterShape.{Shape}
 use Rattle.record_frame.specs.declared.entries.Entry.{Entry}
-use Rattle.record_frame.specs.declared.values.Value.TheVariants.{Add as AddValue}
+use Rattle.log_model.specs.Chain.{Live}
 use Rattle.command_frame.specs.declared.items.Item.{Item}
-use Rattle.command_frame.specs.declared.items.Item.TheVariants.{Append, Read, Add}
-use Rattle.reply_frame.specs.declared.replies.Reply.{Reply, Halted, Down, Settled}
-use Rattle.plain_log.specs.Log.{LogState, start, knows, drawn, next_entry, state_after, log_of}
+use Rattle.command_frame.specs.declared.items.Item.TheVariants.{Append, Read}
+use Rattle.reply_frame.specs.declared.replies.Reply.{Reply, Halted, Down}
+use Rattle.plain_log.specs.Log.{LogState, start, standing_of, drawn, next_entry, after, reply_to, state_after, log_of}
 
--- the entry of an item is put on the disk: it is an append to a shard that was added
+-- the entry of an item is put on the disk: it is an append to a shard that was added and is not finalised
 abbrev pub IsPut : Shape → LogState → Item → Type 0
-IsPut shape state (Append lane shard replica bytes) = knows shape.replicas state shard.0 ≡ true
-IsPut shape state (Read lane shard replica position) = ⊥
-IsPut shape state (Add lane shard) = ⊥
+IsPut shape state (Append lane shard replica bytes) = standing_of shape.replicas state shard.0 ≡ Some Live
+IsPut shape state item = ⊥
 
 -- the entry that an item appends
 abbrev pub appended : ℕ → LogState → Item → Option Entry
 appended run state (Append lane shard replica bytes) = Some (next_entry run state lane bytes)
-appended run state (Read lane shard replica position) = None
-appended run state (Add lane shard) = None
+appended run state item = None
 
 -- the state after an item that takes the replica down or finds it down: an append draws its number and stores nothing
-abbrev pub after_down : LogState → Item → LogState
-after_down state (Append lane shard replica bytes) = drawn state lane
-after_down state (Read lane shard replica position) = state
-after_down state (Add lane shard) = record state { values = state.values ++ AddValue shard ∷ [] }
+abbrev pub after_down : Shape → ℕ → LogState → Item → LogState
+after_down shape run state (Append lane shard replica bytes) = drawn state lane
+after_down shape run state item = after shape run state item
 
--- the reply to an item where the replica is down and so many values are decided
-abbrev pub reply_down : ℕ → Item → Reply
-reply_down decided (Append lane shard replica bytes) = Down
-reply_down decided (Read lane shard replica position) = Down
-reply_down decided (Add lane shard) = Settled (record { 0 = decided })
-
--- how many values are decided after an item where the replica is down
-abbrev pub decided_down : ℕ → Item → ℕ
-decided_down decided (Append lane shard replica bytes) = decided
-decided_down decided (Read lane shard replica position) = decided
-decided_down decided (Add lane shard) = decided + 1
-
--- and how many after items
-abbrev pub decided_after : ℕ → List Item → ℕ
-decided_after decided [] = decided
-decided_after decided (item ∷ items) = decided_after (decided_down decided item) items
+-- the reply to an item where the replica is down
+abbrev pub reply_down : Shape → ℕ → LogState → Item → Reply
+reply_down shape run state (Append lane shard replica bytes) = Down
+reply_down shape run state (Read lane shard replica position) = Down
+reply_down shape run state item = reply_to shape run state item
 
 -- the replies to items, one after another, where the replica is down
-abbrev pub replies_down : ℕ → List Item → List Reply
-replies_down decided [] = []
-replies_down decided (item ∷ items) = reply_down decided item ∷ replies_down (decided_down decided item) items
+abbrev pub replies_down : Shape → ℕ → LogState → List Item → List Reply
+replies_down shape run state [] = []
+replies_down shape run state (item ∷ items) = reply_down shape run state item ∷ replies_down shape run (after_down shape run state item) items
+
+-- the state after items of which the first takes the replica down or finds it down
+abbrev pub state_down : Shape → ℕ → LogState → List Item → LogState
+state_down shape run state [] = state
+state_down shape run state (item ∷ items) = state_down shape run (after_down shape run state item) items
+
+-- the replies to items where the put of the first one failed
+abbrev pub replies_halted : Shape → ℕ → LogState → List Item → List Reply
+replies_halted shape run state [] = []
+replies_halted shape run state (item ∷ items) = Halted ∷ replies_down shape run (after_down shape run state item) items
 
 -- the state after the items before this index
 abbrev pub state_before : Shape → ℕ → List Item → ℕ → LogState
@@ -57,7 +53,7 @@ state_before shape run items at = state_after shape run (start shape) (take at i
 abbrev pub log_with_halt : Shape → ℕ → List Item → Option ℕ → List Reply
 log_with_halt shape run items None = log_of shape run items
 log_with_halt shape run items (Some at) =
-    log_of shape run (take at items) ++ Halted ∷ replies_down (length (state_before shape run items at).values) (drop (at + 1) items)
+    log_of shape run (take at items) ++ replies_halted shape run (state_before shape run items at) (drop at items)
 
 -- the put of the item of this index, where there is one, can fail: the item is there, and its entry is put
 abbrev pub IsHaltOf : Shape → ℕ → List Item → Option ℕ → Type 0
@@ -67,7 +63,7 @@ IsHaltOf shape run items halt =
 -- how many values are decided after the items where that put failed
 abbrev pub values_with_halt : Shape → ℕ → List Item → Option ℕ → ℕ
 values_with_halt shape run items None = length (state_after shape run (start shape) items).values
-values_with_halt shape run items (Some at) = decided_after (length (state_before shape run items at).values) (drop (at + 1) items)
+values_with_halt shape run items (Some at) = length (state_down shape run (state_before shape run items at) (drop at items)).values
 
 -- the entries of each segment that are stored where that put failed
 abbrev pub lists_with_halt : Shape → ℕ → List Item → Option ℕ → List (List Entry)
@@ -77,8 +73,7 @@ lists_with_halt shape run items (Some at) = (state_before shape run items at).se
 -- whether an item appends to this segment of this shard
 abbrev pub is_append_to : ℕ → ℕ → Item → Bool
 is_append_to s j (Append lane shard replica bytes) = (shard.0 == s) && (replica.0 == j)
-is_append_to s j (Read lane shard replica position) = false
-is_append_to s j (Add lane shard) = false
+is_append_to s j item = false
 
 -- the entry that an item appends to this segment of this shard
 abbrev pub appended_to : ℕ → LogState → ℕ → ℕ → Item → Option Entry

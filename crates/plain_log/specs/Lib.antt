@@ -3,3 +3,4 @@ pub mod Halting
 pub mod Log
 pub mod Room
 pub mod Smallest
+pub mod Wishes

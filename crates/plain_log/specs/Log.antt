@@ -3,17 +3,18 @@
 use Rattle.std.specs.Prelude.{ℕ, ◌+◌, ◌-◌, ◌*◌, List, [], ◌∷◌, ◌++◌, map, length, slice_index, slice_index_or, slice_set, nat_lt, Bool, if◌then◌else◌, Option, Some, None, replicate}
 use Rattle.log_base.specs.ClusterShape.{Shape}
 use Rattle.log_base.specs.Draws.{number_of_draw}
+use Rattle.log_base.specs.declared.numbers.Place.{Place}
 use Rattle.log_base.specs.declared.numbers.Position.{Position}
 use Rattle.record_frame.specs.declared.entries.Entry.{Entry}
 use Rattle.record_frame.specs.declared.values.Lengths.{Lengths}
 use Rattle.record_frame.specs.declared.values.Value.{Value}
-use Rattle.record_frame.specs.declared.values.Value.TheVariants.{Cut, Add as AddValue}
-use Rattle.log_model.specs.Chain.{chain_of, is_added}
+use Rattle.record_frame.specs.declared.values.Value.TheVariants.{Cut, Add as AddValue, Finalise as FinaliseValue, Trim as TrimValue}
+use Rattle.log_model.specs.Chain.{ShardState, Standing, Live, Frozen, chain_of, is_added, state_in}
 use Rattle.log_model.specs.Places.{place_at}
 use Rattle.log_model.specs.Lookup.{segment_index, entry_at_position, position_of_place}
 use Rattle.command_frame.specs.declared.items.Item.{Item}
-use Rattle.command_frame.specs.declared.items.Item.TheVariants.{Append, Read, Add}
-use Rattle.reply_frame.specs.declared.replies.Reply.{Reply, Nothing, At, Found, PendingRead, NotAdded, Trimmed, Settled}
+use Rattle.command_frame.specs.declared.items.Item.TheVariants.{Append, Read, Trim, Add, Finalise}
+use Rattle.reply_frame.specs.declared.replies.Reply.{Reply, Nothing, At, Found, PendingRead, Finalised, NotAdded, Trimmed, NoSuchShard, Settled}
 
 pub record LogState : Type 0 where
   pub values : List Value
@@ -44,6 +45,10 @@ cut_of segments = record { count = length segments; length = map (λ (entries : 
 abbrev pub entries_of : ℕ → LogState → ℕ → ℕ → List Entry
 entries_of replicas state shard segment = slice_index_or state.segments (segment_index replicas shard segment) []
 
+-- a value joins the values
+abbrev pub with_value : LogState → Value → LogState
+with_value state value = record state { values = state.values ++ value ∷ [] }
+
 -- an entry joins the list of its segment, and the cut of all lists joins the values
 abbrev pub stored : ℕ → LogState → ℕ → ℕ → Entry → LogState
 stored replicas state shard segment entry =
@@ -54,14 +59,30 @@ stored replicas state shard segment entry =
 abbrev pub knows : ℕ → LogState → ℕ → Bool
 knows replicas state shard = is_added (chain_of replicas state.values) shard
 
--- The state after an item. An append draws a number, also where its shard was not added.
+-- the standing in a shard's state, where there is one
+abbrev pub found_standing : Option ShardState → Option Standing
+found_standing None = None
+found_standing (Some state) = Some state.standing
+
+-- the standing of a shard, where it was added
+abbrev pub standing_of : ℕ → LogState → ℕ → Option Standing
+standing_of replicas state shard = found_standing (state_in (chain_of replicas state.values).shards shard)
+
+-- the state after an entry comes to a shard of this standing: only a live one takes it
+abbrev pub after_entry : ℕ → LogState → ℕ → ℕ → Entry → Option Standing → LogState
+after_entry replicas state shard segment entry None = state
+after_entry replicas state shard segment entry (Some Frozen) = state
+after_entry replicas state shard segment entry (Some Live) = stored replicas state shard segment entry
+
+-- The state after an item. An append draws a number, also where its entry is not stored. An addition, a trim, and the
+-- finalisation of a shard that was added join the values, also where the chain stays as it is.
 abbrev pub after : Shape → ℕ → LogState → Item → LogState
 after shape run state (Append lane shard replica bytes) =
-    if knows shape.replicas state shard.0
-    then stored shape.replicas (drawn state lane) shard.0 replica.0 (next_entry run state lane bytes)
-    else drawn state lane
+    after_entry shape.replicas (drawn state lane) shard.0 replica.0 (next_entry run state lane bytes) (standing_of shape.replicas state shard.0)
 after shape run state (Read lane shard replica position) = state
-after shape run state (Add lane shard) = record state { values = state.values ++ AddValue shard ∷ [] }
+after shape run state (Trim lane position) = with_value state (TrimValue position)
+after shape run state (Add lane shard) = with_value state (AddValue shard)
+after shape run state (Finalise lane shard) = if knows shape.replicas state shard.0 then with_value state (FinaliseValue shard) else state
 
 -- where a place stands, as a reply
 abbrev pub told_position : Option ℕ → Reply
@@ -81,16 +102,26 @@ read_in replicas state position =
     else if nat_lt position.0 chain.end then told_entry position (entry_at_position replicas state.values state.segments position.0)
     else PendingRead (record { 0 = chain.end })
 
--- The reply to an item. An append to a shard that was added is told its position at once; it is that of its
--- place in what the values with its cut spell. An addition is told the index of its value.
+-- The reply to an append by the standing of its shard. Where it is live, that is the position of the entry's place in
+-- what the values with its cut spell.
+abbrev pub told_append : ℕ → List Value → Place → Option Standing → Reply
+told_append replicas values place None = NotAdded
+told_append replicas values place (Some Frozen) = Finalised
+told_append replicas values place (Some Live) = told_position (position_of_place replicas values place)
+
+-- a value that joins next is told its index
+abbrev pub told_slot : LogState → Reply
+told_slot state = Settled (record { 0 = length state.values })
+
+-- The reply to an item. Only a shard that was added is finalised.
 abbrev pub reply_to : Shape → ℕ → LogState → Item → Reply
 reply_to shape run state (Append lane shard replica bytes) =
-    if knows shape.replicas state shard.0
-    then told_position (position_of_place shape.replicas (after shape run state (Append lane shard replica bytes)).values
-    (place_at shard.0 replica.0 (length (entries_of shape.replicas state shard.0 replica.0))))
-    else NotAdded
+    told_append shape.replicas (after shape run state (Append lane shard replica bytes)).values
+    (place_at shard.0 replica.0 (length (entries_of shape.replicas state shard.0 replica.0))) (standing_of shape.replicas state shard.0)
 reply_to shape run state (Read lane shard replica position) = read_in shape.replicas state position
-reply_to shape run state (Add lane shard) = Settled (record { 0 = length state.values })
+reply_to shape run state (Trim lane position) = told_slot state
+reply_to shape run state (Add lane shard) = told_slot state
+reply_to shape run state (Finalise lane shard) = if knows shape.replicas state shard.0 then told_slot state else NoSuchShard
 
 -- the replies to items, one after another, from a state on
 abbrev pub replies_from : Shape → ℕ → LogState → List Item → List Reply

@@ -1,0 +1,33 @@
+-- The values that items ask for.
+use Rattle.std.specs.Prelude.{◌≢◌, List, Option, Some, None}
+use Rattle.std.specs.List.{AllByRecursion}
+use Rattle.log_base.specs.declared.numbers.Position.{Position}
+use Rattle.log_base.specs.declared.numbers.Shard.{Shard}
+use Rattle.record_frame.specs.declared.values.Value.{Value}
+use Rattle.record_frame.specs.declared.values.Value.TheVariants.{Add as AddValue, Finalise as FinaliseValue, Trim as TrimValue}
+use Rattle.command_frame.specs.declared.items.Item.{Item}
+use Rattle.command_frame.specs.declared.items.Item.TheVariants.{Append, Read, Trim, Add, Finalise}
+
+-- the value that an item asks for
+abbrev pub wished : Item → Option Value
+wished (Append lane shard replica bytes) = None
+wished (Read lane shard replica position) = None
+wished (Trim lane position) = Some (TrimValue position)
+wished (Add lane shard) = Some (AddValue shard)
+wished (Finalise lane shard) = Some (FinaliseValue shard)
+
+-- an item is no trim
+abbrev pub IsNoTrim : Item → Type 0
+IsNoTrim item = (position : Position) → wished item ≢ Some (TrimValue position)
+
+-- an item finalises another shard or none
+abbrev pub IsNoFinalise : Shard → Item → Type 0
+IsNoFinalise shard item = wished item ≢ Some (FinaliseValue shard)
+
+-- no item is a trim
+abbrev pub NoTrim : List Item → Type 0
+NoTrim items = AllByRecursion IsNoTrim items
+
+-- no item finalises this shard
+abbrev pub NoFinalise : Shard → List Item → Type 0
+NoFinalise shard items = AllByRecursion (IsNoFinalise shard) items
