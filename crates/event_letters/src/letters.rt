@@ -16,16 +16,20 @@ use std::mem;
 pub struct EventLetters {
     alloc: Global,
     sent: Vec<Sent>,
+    /// For how many letters more there is room. The vector may have more of it, left by an event that sent none.
+    room: usize,
     spelling: Vec<u8>,
 }
 
 impl Model for EventLetters {
-    ghost use Rattle.std.specs.Prelude.{◌-◌, vec_len, vec_capacity};
+    ghost use Rattle.std.specs.Prelude.{◌+◌, ◌≤◌, vec_len, vec_capacity};
     ghost use Rattle.event_letters.specs.Letters.{EventLetters as Letters};
 
     ghost Value = { Letters };
 
-    ghost view = { λ l. record { sent = l.sent.items; room = vec_capacity l.sent - vec_len l.sent; longest = vec_capacity l.spelling } };
+    ghost view = { λ l. record { sent = l.sent.items; room = l.room; longest = vec_capacity l.spelling } };
+
+    ghost invariant = { λ l. vec_len l.sent + l.room ≤ vec_capacity l.sent };
 }
 
 impl EventLetters {
@@ -36,6 +40,7 @@ impl EventLetters {
         EventLetters {
             alloc,
             sent: Vec::new(alloc),
+            room: 0,
             spelling: Vec::new(alloc),
         }
     }
@@ -48,8 +53,9 @@ impl EventLetters {
         ensures space { OnOk result ((sizes : Items ℕ) → HasSpace self.old out.old.rooms sizes
             → HasSpace self.new out.new.rooms (sizes ++ replicate count bytes)) }
     {
-        let free = self.sent.capacity() - self.sent.len();
-        self.sent.reserve(free + count as usize)?;
+        let room = self.room + count as usize;
+        self.sent.reserve(room)?;
+        self.room = room;
         self.spelling.clear();
         self.spelling.reserve(bytes as usize)?;
         for _ in 0..count {
@@ -71,14 +77,19 @@ impl EventLetters {
         let _ = encode(&message, &mut self.spelling);
         out.push(to, &self.spelling);
         let _ = self.sent.push(Sent { to, message });
+        self.room -= 1;
     }
 
-    /// Takes the letters out. There is no room for more then.
+    /// Takes the letters out. There is no room for more then. Where none was sent, the memory stays for the next event.
     pub fn take(&mut self) -> List<Sent>
         ensures letters { result ≡ self.old.sent }
         ensures empty { self.new.sent ≡ [] }
     {
-        let alloc = self.alloc;
-        List::of(mem::replace(&mut self.sent, Vec::new(alloc)))
+        self.room = 0;
+        let none = Vec::new(self.alloc);
+        if self.sent.is_empty() {
+            return List::of(none);
+        }
+        List::of(mem::replace(&mut self.sent, none))
     }
 }

@@ -128,6 +128,8 @@ impl Walker {
         ensures taken { IfOk result (λ following. (kept : KeptLists) (events : Items Event) → MayTake self.old kept events node.0 input
             → IsTaken self.old self.new kept events node.0 input mark outputs reply.now following) }
     {
+        // Buffers that an event left over are not kept: they would grow with the history.
+        self.out = Outbox::new(self.alloc);
         let made = step_at(
             &self.config,
             &mut self.nodes,

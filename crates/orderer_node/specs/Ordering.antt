@@ -1,6 +1,6 @@
 -- What contracts see of an orderer's node: the node of the rules that it is, how an event turns out there, and the memory
 -- that an event needs.
-use Rattle.std.specs.Prelude.{◌≡◌, ℕ, ◌+◌, ◌*◌, ◌<◌, ◌≤◌, List, [], ◌++◌, map, replicate, Bool, true, false, if◌then◌else◌, Option, Some, None, IsSome, IfSome}
+use Rattle.std.specs.Prelude.{◌≡◌, ℕ, ◌+◌, ◌*◌, ◌<◌, ◌≤◌, List, [], ◌++◌, drop, length, map, replicate, take, Bool, true, false, if◌then◌else◌, Option, Some, None, IsSome, IfSome}
 use Rattle.std.specs.List.{AllByRecursion}
 use Rattle.std.specs.Option.{option_map}
 use Rattle.reply_frame.specs.declared.replies.Reply.{Nothing}
@@ -22,6 +22,7 @@ use Rattle.paxos_acceptor.specs.Accepting.{HasRoom as HasPayloadRoom}
 use Rattle.paxos_acceptor.specs.Listed.{list_of}
 use Rattle.paxos_model.specs.Payloads.{IsPayload, payload_in}
 use Rattle.paxos_model.specs.Votes.{Payload}
+use Rattle.record_frame.specs.declared.values.Value.{Value}
 use Rattle.segment_journal.specs.Journalled.{Journalled, Turns}
 use Rattle.segment_journal.specs.declared.journal.Installed.{Installed}
 use Rattle.segment_journal.specs.declared.journal.Installed.TheVariants.{Failed, OneMore, Same}
@@ -146,16 +147,16 @@ pub record IsReopened {J : Type 0} (faults : J → ℕ) (keeps_synced : J → Bo
 
 -- ---- the memory that an event needs
 
--- how many letters an event sends at most, and how long each is
-abbrev pub letter_count : Shape → Input → ℕ
-letter_count config (Deliver place index (Some (Prepare ballot slot))) = 1
-letter_count config (Deliver place index (Some (Promised ballot slot who votes))) = config.orderers
-letter_count config (Deliver place index (Some (Accept ballot slot value))) = 1
-letter_count config (Deliver place index (Some (Accepted ballot slot who))) = config.replicas * config.shards + config.orderers + config.orderers
-letter_count config (Deliver place index (Some (Want slot node))) = 16
-letter_count config Tick = config.orderers
-letter_count config Lead = config.orderers
-letter_count config _ = 0
+-- how many letters an event sends at most where these values are known, and how long each is
+abbrev pub letter_count : Shape → List Value → Input → ℕ
+letter_count config known (Deliver place index (Some (Prepare ballot slot))) = 1
+letter_count config known (Deliver place index (Some (Promised ballot slot who votes))) = config.orderers
+letter_count config known (Deliver place index (Some (Accept ballot slot value))) = 1
+letter_count config known (Deliver place index (Some (Accepted ballot slot who))) = config.replicas * config.shards + config.orderers + config.orderers
+letter_count config known (Deliver place index (Some (Want slot node))) = length (take 16 (drop slot.0 known))
+letter_count config known Tick = config.orderers
+letter_count config known Lead = config.orderers
+letter_count config known _ = 0
 
 abbrev pub letter_limit : Input → ℕ
 letter_limit (Deliver place index (Some (Prepare ballot slot))) = report_limit
@@ -172,7 +173,7 @@ pub record IsReadyWith {J : Type 0} (state : J → Journalled) (ordering : Order
   pub memory : HasRoom ordering.memory
   pub votes : 64 ≤ ordering.vote_room
   pub sent : letters.sent ≡ []
-  pub space : HasSpace letters out.rooms (replicate (letter_count ordering.memory.config input) (letter_limit input))
+  pub space : HasSpace letters out.rooms (replicate (letter_count ordering.memory.config ordering.memory.orderer.known input) (letter_limit input))
   pub read : input ≡ Restart → IsRead (state ordering.journal)
 
 abbrev pub IsReady : {J : Type 0} → (J → Journalled) → Ordering J → Input → Outgoing → Type 0

@@ -213,7 +213,7 @@ impl<J: Journal, P: Places> OrdererNode<J, P> {
         self.acceptor.ready()?;
         self.memory.ready()?;
         self.votes.reserve(VOTES)?;
-        let (count, bytes) = letters_of(&self.memory.config(), input);
+        let (count, bytes) = letters_of(&self.memory, input);
         self.letters.ready(count, bytes, out)?;
         if let Input::Restart = input {
             return self.read();

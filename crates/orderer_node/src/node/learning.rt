@@ -1,6 +1,6 @@
 //! What an orderer's node does as a learner.
 
-ghost use Rattle.std.specs.Prelude.{◌≡◌, ◌+◌, ◌*◌, ◌<◌, ◌≤◌, ◌++◌, [], length, map, replicate};
+ghost use Rattle.std.specs.Prelude.{◌≡◌, ◌+◌, ◌*◌, ◌<◌, ◌≤◌, ◌++◌, [], drop, length, map, replicate, take};
 ghost use Rattle.std.specs.List.{AllByRecursion};
 ghost use Rattle.event_letters.specs.Letters.{HasSpace};
 ghost use Rattle.record_frame.specs.Values.{IsLengths, IsValue};
@@ -67,7 +67,7 @@ impl<J: Journal, P: Places> OrdererNode<J, P> {
         requires from { from.0 ≤ 16384 }
         requires running { self.now.standing ≡ Standing.Up }
         requires sent { letters.old.sent ≡ [] }
-        requires space { HasSpace letters.old out.old.rooms (replicate 16 143) }
+        requires space { HasSpace letters.old out.old.rooms (replicate (length (take 16 (drop from.0 self.now.memory.orderer.known))) 143) }
         ensures { Follows J.state (on_want self.now.memory.orderer from.0 node.0) self.now self.now Mark.Done letters.new out.old out.new }
     {
         tell(node, from, self.memory.give(from), letters, out);

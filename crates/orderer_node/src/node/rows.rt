@@ -2,7 +2,6 @@
 
 ghost use Rattle.std.specs.Prelude.{◌≡◌, ◌++◌, [], map, Some, true};
 ghost use Rattle.history_frame.specs.declared.inputs.Input.TheVariants.{Deliver as Delivered};
-ghost use Rattle.log_base.specs.Shape.{shape};
 ghost use Rattle.message_frame.specs.Spelling.{IsMessage};
 ghost use Rattle.node_model.specs.Fits.{HasRange, IsCallOf, IsInput, IsMessageOf};
 ghost use Rattle.node_model.specs.Machine.{posted};
@@ -15,11 +14,12 @@ ghost use Rattle.orderer_node.specs.Answering.{IsOwn};
 ghost use Rattle.orderer_node.specs.Ordering.{FollowsSome, HasRow, IsCaused, IsReadyWith, letter_count, letter_limit, node_of, put_at, put_in};
 ghost use Rattle.orderer_node.specs.Remembering.{HasRoom};
 
+use crate::memory::OrdererMemory;
 use crate::node::{OrdererNode, Standing, Turn};
 use cut_chain::Places;
 use event_letters::EventLetters;
 use history_frame::{Call, Input, Mark};
-use log_base::{Config, Outbox};
+use log_base::Outbox;
 use message_frame::Message;
 use reply_frame::Reply;
 use segment_journal::Journal;
@@ -154,26 +154,27 @@ impl<J: Journal, P: Places> OrdererNode<J, P> {
 }
 
 /// How many letters an event sends at most, and how many bytes each of them has at most.
-pub(super) fn letters_of(config: &Config, input: &Input) -> (u32, u32)
-    ensures count { result.0 ≡ letter_count (shape config.now) input.now }
+pub(super) fn letters_of<P: Places>(memory: &OrdererMemory<P>, input: &Input) -> (u32, u32)
+    ensures count { result.0 ≡ letter_count memory.now.config memory.now.orderer.known input.now }
     ensures bytes { result.1 ≡ letter_limit input.now }
 {
-    let orderers = u32::from(config.orderers());
+    let orderers = u32::from(memory.config().orderers());
     match input {
         Input::Deliver {
             message: Some(message),
             ..
-        } => letters_for(config, message),
+        } => letters_for(memory, message),
         Input::Tick | Input::Lead => (orderers, LETTER_LIMIT),
         _ => (0, LETTER_LIMIT),
     }
 }
 
 // How many letters the row of a message sends at most, and how many bytes each of them has at most.
-fn letters_for(config: &Config, message: &Message) -> (u32, u32)
-    ensures count { result.0 ≡ letter_count (shape config.now) (Delivered 0 0 (Some message.now)) }
+fn letters_for<P: Places>(memory: &OrdererMemory<P>, message: &Message) -> (u32, u32)
+    ensures count { result.0 ≡ letter_count memory.now.config memory.now.orderer.known (Delivered 0 0 (Some message.now)) }
     ensures bytes { result.1 ≡ letter_limit (Delivered 0 0 (Some message.now)) }
 {
+    let config = memory.config();
     let orderers = u32::from(config.orderers());
     match message {
         Message::Prepare { .. } => (1, REPORT_LIMIT),
@@ -183,7 +184,7 @@ fn letters_for(config: &Config, message: &Message) -> (u32, u32)
             let storage = u32::from(config.replicas()) * u32::from(config.shards());
             (storage + orderers + orderers, LETTER_LIMIT)
         }
-        Message::Want { .. } => (16, LETTER_LIMIT),
+        Message::Want { from, .. } => (memory.give(*from).len() as u32, LETTER_LIMIT),
         _ => (0, LETTER_LIMIT),
     }
 }

@@ -1,5 +1,6 @@
-use Rattle.std.proofs.Common.{◌≡◌, ◌+◌, ◌≤◌, List, ◌++◌, length, map, take, drop, refl, sym, ap, subst, ◌∙◌, arith}
+use Rattle.std.proofs.Common.{◌≡◌, ◌+◌, ◌≤◌, List, ◌++◌, length, map, take, drop, replicate, refl, sym, ap, subst, ◌∙◌, arith}
 use Rattle.std.specs.List.{AllByRecursion}
+use Rattle.event_letters.specs.Letters.{HasSpace}
 use Rattle.history_frame.specs.declared.events.Sent.{Sent}
 use Rattle.record_frame.specs.declared.values.Value.{Value}
 use Rattle.record_frame.specs.Values.{IsValue}
@@ -8,7 +9,7 @@ use Rattle.node_model.specs.OrdererRow.{decide_letters, on_want, told}
 use Rattle.orderer_node.specs.Announcing.{AreSmall, decides}
 use Rattle.orderer_node.specs.Ordering.{Ordering}
 use Rattle.orderer_node.proofs.Following.{done_follows}
-use Rattle.orderer_node.proofs.Sending.{decides-asked, given_count, given_slots, given_values, small-more, space_less}
+use Rattle.orderer_node.proofs.Sending.{decides-asked, given_count, given_slots, given_values, small-more}
 use Rattle.orderer_node.proofs.node.OrdererNode.give.Goals as goal
 
 pub tell-requires-clause-values : goal.tell-requires-clause-values
@@ -23,8 +24,9 @@ tell-requires-clause-slots g c =
 
 pub tell-requires-clause-space : goal.tell-requires-clause-space
 tell-requires-clause-space g c =
-    let count : length c.give.result.now ≤ 16 = subst (λ (v : List Value). length v ≤ 16) (sym c.give.ensures.given) (given_count c.args.from.0 16 c.self.inside.memory.orderer.known) in
-    space_less _ _ 143 (length c.give.result.now) 16 count c.requires.space
+    let known : c.self.inside.memory.orderer.known ≡ c.args.self.now.memory.orderer.known = ap (λ (m : Ordering g.row.J.Denot). m.memory.orderer.known) c.self.view_is in
+    let given : c.give.result.now ≡ take 16 (drop c.args.from.0 c.args.self.now.memory.orderer.known) = c.give.ensures.given ∙ ap (λ (v : List Value). take 16 (drop c.args.from.0 v)) known in
+    subst (λ (v : List Value). HasSpace c.args.letters.now c.args.out.now.rooms (replicate (length v) 143)) (sym given) c.requires.space
 
 pub returns : goal.returns
 unfolding on_want
