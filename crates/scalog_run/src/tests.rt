@@ -76,8 +76,7 @@ const HEAD: &[u8] = b"\0\0\0\x09\x60\x02\x02\x03\x01\0\0\0\x01";
 const SECOND_HEAD: &[u8] = b"\0\0\0\x09\x60\x02\x02\x03\x01\0\0\0\x02";
 
 // Orderer 0 leads, and its first letter prepares ballot 6.
-const LEADS_AGAIN: &[u8] =
-    b"\x62\0\x05\x04\0\x03\0\x05\0\0\0\x0d\x05\0\0\0\0\0\0\0\x06\0\0\0\0";
+const LEADS_AGAIN: &[u8] = b"\x62\0\x05\x04\0\x03\0\x05\0\0\0\x0d\x05\0\0\0\0\0\0\0\x06\0\0\0\0";
 
 // The entry of an append of a, behind its open gate, and a closed gate.
 const ENTRY: &[u8] = b"\x01\0\0\0\x10\x01\0\0\0\0\0\x01\0\0\0\0\0\0\0\x01a\0";
