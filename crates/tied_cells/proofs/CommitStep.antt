@@ -3,7 +3,7 @@ use Rattle.std.proofs.Common.{◌≡◌, ◌≢◌, ℕ, suc, ◌+◌, ◌*◌, 
 use Rattle.std.proofs.lemmas.Bool.{cases_eq}
 use Rattle.std.specs.Prelude.{slice_index}
 use mathlib.Core.Option.{some, none}
-use lib.ListN.{get_elem?}
+use lib.ListN.{get_elem?, length-map}
 use Rattle.atomic_table.specs.Table.{State, Me, rest, step, keeps, Allows}
 use Rattle.log_base.specs.Machines.{Meanings, Event, Letter as Told, of_node, state_after, IsOutput, IsDelivered, Follows, IsNext, IsLegal}
 use Rattle.log_base.proofs.Legal.{at_push, legal_push, output_longer}
@@ -15,9 +15,9 @@ use Rattle.tied_cells.specs.declared.board.Turn.{Turn}
 use Rattle.tied_cells.specs.declared.board.Addressed.{Addressed}
 use Rattle.tied_cells.specs.declared.board.Joined.{Joined}
 use Rattle.tied_cells.specs.declared.board.View.{View}
-use Rattle.tied_cells.specs.History.{Entry, events, own_of, own_list, happened_of}
+use Rattle.tied_cells.specs.History.{Entry, event_of, events, own_of, own_list, happened_of}
 use Rattle.tied_cells.specs.Rule.{World, nodes_of, told, IsGiven, IsSized, IsRun, KnowsTurn, KnowsBox, KnowsLetter, KnowsJoined, Knows, Stands, IsCell, IsBox, IsOut, HasTurnAt, InHand, IsKept, Holds}
-use Rattle.tied_cells.specs.Views.{turn_node, grown_turn, undelivered, grown}
+use Rattle.tied_cells.specs.Views.{turn_node, grown_turn, undelivered, grown, IsPlaced}
 use Rattle.tied_cells.specs.Turns.{IsLastFetched, Steps}
 use Rattle.tied_cells.specs.Plays.{placed}
 use Rattle.tied_cells.proofs.Picked.{own_here, own_else, cell_here, cell_else, events_push, cell_happened}
@@ -159,6 +159,40 @@ module _ {A S I H : Type 0} (state : A → S) (m : Meanings S I H) (deal : Deal 
   abbrev Rule : State (Stored A H) (View S H) → Type 0
   Rule = Holds state m deal
 
+  -- the node's events are those of the turn, and the event may come next
+  follows_on : (s : State (Stored A H) (View S H)) (r : Rule s) (id : ℕ) (v : View S H) (turn : Turn H) (happened : H) → get_elem? s.views id ≡ some v → v.alive ≡ true → v.turn ≡ Some turn
+      → Steps m v turn happened → (of_node turn.node (events r.world.log) ≡ map happened_of turn.events) × IsNext m deal.starts (events r.world.log) (record { node = turn.node; happened = happened })
+  follows_on s r id v turn happened at alive has steps =
+      let k = known m deal r.world s.words id v alive (r.passes id v at) in
+      let log = r.world.log in
+      let t = subst (KnowsTurn (nodes_of deal) s.words log v.number) has k.turn_is in
+      let now : map happened_of turn.events ≡ of_node turn.node (events log) = ap (map happened_of) t.2 ∙ sym (cell_happened turn.node 0 log) in (
+        sym now,
+        (
+          steps.start,
+          subst (λ (d : Deal S). slice_get d.starts turn.node ≡ Some steps.start) k.deal_is steps.starts_so,
+          subst (λ (hs : List H). Follows m (state_after m steps.start hs) (events log) turn.node happened) now (record {
+            fits = steps.fits;
+            row = steps.row;
+            delivered = delivered_so m (events log) turn.node (m.delivers (m.input happened)) v.fetched k.fetched_is steps.delivered;
+          }),
+        ),
+      )
+
+  -- it stands at its place in a legal history
+  is_placed : (s : State (Stored A H) (View S H)) (r : Rule s) (id : ℕ) (v : View S H) (turn : Turn H) (happened : H) → get_elem? s.views id ≡ some v → v.alive ≡ true → v.turn ≡ Some turn
+      → Steps m v turn happened → IsPlaced m v.deal.starts turn (slice_index s.words 0) happened
+  is_placed s r id v turn happened at alive has steps =
+      let k = known m deal r.world s.words id v alive (r.passes id v at) in
+      let f = follows_on s r id v turn happened at alive has steps in
+      subst (λ (d : Deal S). IsPlaced m d.starts turn (slice_index s.words 0) happened) (sym k.deal_is) (record {
+        before = events r.world.log;
+        sound = r.sound;
+        legal = legal_push m deal.starts (events r.world.log) (record { node = turn.node; happened = happened }) r.run.legal f.1;
+        place_is = length-map r.world.log event_of ∙ sym r.run.next_is;
+        at_node = f.0;
+      })
+
   -- the history grows by an event of the pass
   grows : (s : State (Stored A H) (View S H)) (r : Rule s) (id : ℕ) (v : View S H) (turn : Turn H) (happened : H) → get_elem? s.views id ≡ some v → v.alive ≡ true → v.turn ≡ Some turn
       → length v.own < v.deal.quota → Steps m v turn happened
@@ -170,16 +204,7 @@ module _ {A S I H : Type 0} (state : A → S) (m : Meanings S I H) (deal : Deal 
       let next : ℕ = slice_index s.words 0 in
       let t = subst (KnowsTurn (nodes_of deal) s.words world.log v.number) has k.turn_is in
       let room : length (own_list v.number world.log) < deal.quota = subst (λ (d : Deal S). length (own_list v.number world.log) < d.quota) k.deal_is (subst (λ (l : List (Own H)). length l < v.deal.quota) k.own_is roomy) in
-      let now : map happened_of turn.events ≡ of_node turn.node (events world.log) = ap (map happened_of) t.2 ∙ sym (cell_happened turn.node 0 world.log) in
-      let follows : IsNext m deal.starts (events world.log) entry.event = (
-        steps.start,
-        subst (λ (d : Deal S). slice_get d.starts turn.node ≡ Some steps.start) k.deal_is steps.starts_so,
-        subst (λ (hs : List H). Follows m (state_after m steps.start hs) (events world.log) turn.node happened) now (record {
-          fits = steps.fits;
-          row = steps.row;
-          delivered = delivered_so m (events world.log) turn.node (m.delivers (m.input happened)) v.fetched k.fetched_is steps.delivered;
-        }),
-      ) in
+      let follows : IsNext m deal.starts (events world.log) entry.event = (follows_on s r id v turn happened at alive has steps).1 in
       let run : IsRun m deal (longer m deal world entry) (suc next) = run_grows m deal world entry next r.run k.number_is room follows in
       let short : length (world.log ++ entry ∷ []) ≤ 131072 = run_is_short m deal (longer m deal world entry) (suc next) run r.small in
       let last : suc next ≡ length (world.log ++ entry ∷ []) = run.next_is in
@@ -223,7 +248,14 @@ module _ {A S I H : Type 0} (state : A → S) (m : Meanings S I H) (deal : Deal 
         keeps,
         tt,
         g.1,
-        (g.0, λ other said rest is. let stored : Said happened ≡ Said said = same_stored slot other (Said happened) (Said said) cs rest is in let same : happened ≡ said = cc in ap (λ (h : H). (grown m v (slice_index s.words 0) h, (slot, Said happened) ∷ cs)) same),
+        (
+          g.0,
+          λ other said rest is. let stored : Said happened ≡ Said said = same_stored slot other (Said happened) (Said said) cs rest is in let same : happened ≡ said = cc in (
+            ap (λ (h : H). (grown m v (slice_index s.words 0) h, (slot, Said happened) ∷ cs)) same,
+            λ own held. let one : turn ≡ own = let e = sym has ∙ held in cc in
+                subst (λ (x : Turn H × H). IsPlaced m v.deal.starts x.0 (slice_index s.words 0) x.1) (λ i. (one i, same i)) (is_placed s r id v turn happened at alive has steps),
+          ),
+        ),
       ))
 
 module _ {A S I H : Type 0} (m : Meanings S I H) where

@@ -1,15 +1,16 @@
 -- What each step on the table tells the pass that makes it: of the step, the pass and its slots before, the number found, and the pass and its slots after.
-use Rattle.std.specs.Prelude.{◌≡◌, ◌≢◌, ℕ, ◌+◌, ◌<◌, List, ◌∷◌}
+use Rattle.std.specs.Prelude.{◌≡◌, ◌≢◌, ℕ, ◌+◌, ◌<◌, List, ◌∷◌, Some}
 use Rattle.atomic_table.specs.Table.{Me, Step, rest}
 use Rattle.log_base.specs.Machines.{Meanings}
 use Rattle.tied_cells.specs.declared.letter.Letter.{Letter}
 use Rattle.tied_cells.specs.declared.board.Cell.{Cell}
 use Rattle.tied_cells.specs.declared.board.Stored.{Stored}
 use Rattle.tied_cells.specs.declared.board.Stored.TheVariants.{Nothing, Home, Mail, Said}
+use Rattle.tied_cells.specs.declared.board.Turn.{Turn}
 use Rattle.tied_cells.specs.declared.board.View.{View}
 use Rattle.tied_cells.specs.History.{StandsAfter}
 use Rattle.tied_cells.specs.Rule.{nodes_of, box_node}
-use Rattle.tied_cells.specs.Views.{noted, holding, let_go, boxing, unboxed, posting, fetching, addressed, grown, FitsTurn}
+use Rattle.tied_cells.specs.Views.{noted, holding, let_go, boxing, unboxed, posting, fetching, addressed, grown, FitsTurn, IsPlaced}
 
 module _ {A S I H : Type 0} (state : A → S) (m : Meanings S I H) where
   -- the turn at a node, with its cell
@@ -19,9 +20,10 @@ module _ {A S I H : Type 0} (state : A → S) (m : Meanings S I H) where
       × (found ≢ 0 → me' ≡ (noted me.0 at.word found, me.1))
 
 module _ {A S I H : Type 0} (m : Meanings S I H) where
-  -- the place of the event that lies in the slot in hand
+  -- the place of the event that lies in the slot in hand, and that it stands there
   abbrev pub placed : Step (Stored A H) → Me (Stored A H) (View S H) → ℕ → Me (Stored A H) (View S H) → Type 0
-  placed at me found me' = (found < 131072) × ((slot : ℕ) (happened : H) (others : List (ℕ × Stored A H)) → me.1 ≡ (slot, Said happened) ∷ others → me' ≡ (grown m me.0 found happened, me.1))
+  placed at me found me' = (found < 131072) × ((slot : ℕ) (happened : H) (others : List (ℕ × Stored A H)) → me.1 ≡ (slot, Said happened) ∷ others → (me' ≡ (grown m me.0 found happened, me.1))
+      × ((turn : Turn H) → me.0.turn ≡ Some turn → IsPlaced m me.0.deal.starts turn found happened))
 
   -- a letter, with its box
   abbrev pub fetched : Step (Stored A H) → Me (Stored A H) (View S H) → ℕ → Me (Stored A H) (View S H) → Type 0

@@ -1,6 +1,6 @@
 -- What a pass knows after each of its steps.
-use Rattle.std.specs.Prelude.{◌≡◌, ℕ, ◌+◌, true, false, List, [], ◌∷◌, ◌++◌, map, slice_get, Option, Some, None}
-use Rattle.log_base.specs.Machines.{Meanings, Letter as Told, state_after}
+use Rattle.std.specs.Prelude.{◌≡◌, ℕ, ◌+◌, true, false, List, [], ◌∷◌, ◌++◌, map, length, slice_get, Option, Some, None}
+use Rattle.log_base.specs.Machines.{Meanings, Event, Letter as Told, IsLegal, of_node, state_after}
 use Rattle.log_base.specs.declared.machine.Committed.{Committed}
 use Rattle.tied_cells.specs.declared.letter.Letter.{Letter}
 use Rattle.tied_cells.specs.declared.board.Turn.{Turn}
@@ -68,6 +68,15 @@ module _ {S I H : Type 0} (m : Meanings S I H) where
   abbrev pub FitsTurn : View S H → ℕ → Letter → Type 0
   FitsTurn view node letter = (turn : Turn H) → view.turn ≡ Some turn → turn.node ≡ node → (start : S) → slice_get view.deal.starts node ≡ Some start
       → (input : I) → m.delivers input ≡ Some (told letter) → m.fits (state_after m start (map happened_of turn.events)) input
+
+-- An event that got its place: it stands there in a legal history from a sound start, and the events at its node before it
+-- are those that came with the turn.
+pub record IsPlaced {S I H : Type 0} (m : Meanings S I H) (starts : List S) (turn : Turn H) (place : ℕ) (happened : H) : Type 0 where
+  pub before : List (Event H)
+  pub sound : m.is_sound starts
+  pub legal : IsLegal m starts (before ++ record { node = turn.node; happened = happened } ∷ [])
+  pub place_is : length before ≡ place
+  pub at_node : of_node turn.node before ≡ map happened_of turn.events
 
 abbrev pub one_more : Option ℕ → Option ℕ
 one_more None = None

@@ -36,3 +36,19 @@ pub struct Pass<M: Machine> {
     ghost together: { account.room * seat.me.0.deal.passes ≤ 536870912 },
     ghost nodes_are: { seat.table_id.slots ≡ 17 * length seat.me.0.deal.starts },
 }
+
+impl<M: Machine> Pass<M> {
+    /// Its number among the passes, from 0.
+    pub fn number(&self) -> u16
+        ensures { result ≡ self.now.account.number }
+    {
+        self.account.number
+    }
+
+    /// How many places it has used.
+    pub fn used(&self) -> u32
+        ensures { result ≡ length self.now.seat.me.0.own }
+    {
+        self.account.used
+    }
+}

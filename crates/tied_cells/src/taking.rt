@@ -3,7 +3,7 @@
 ghost use Rattle.std.specs.Prelude.{◌≡◌, ◌+◌, ◌<◌, ◌≤◌, [], ◌∷◌, length, true, vec_len, vec_capacity, OnOk, Some};
 ghost use Rattle.std.specs.Bool.{OnTrue, OnFalse};
 ghost use Rattle.tied_cells.specs.History.{StandsAfter};
-ghost use Rattle.tied_cells.specs.Views.{holding, let_go, noted, grown};
+ghost use Rattle.tied_cells.specs.Views.{holding, let_go, noted, grown, IsPlaced};
 ghost use Rattle.tied_cells.specs.Turns.{HoldsNothing, HasTurn, Takes, HasStepped, Steps, IsSpent, HasLeft, charged, with_event};
 ghost use Rattle.tied_cells.specs.declared.board.Stored.TheVariants.{Nothing};
 ghost use Rattle.tied_cells.specs.declared.board.Turn.{Turn};
@@ -74,6 +74,7 @@ impl<M: Machine> Cells<M> {
         ensures table { seat.new.table_id ≡ seat.old.table_id }
         ensures place { result.0 < 131072 }
         ensures happened { result.1 ≡ happened }
+        ensures placed { (turn : Turn M.Happened) → seat.old.me.0.turn ≡ Some turn → IsPlaced M.meanings seat.old.me.0.deal.starts turn result.0 happened }
         ensures view { seat.new.me ≡ (grown M.meanings seat.old.me.0 result.0 happened, (node.0, Nothing) ∷ []) }
     {
         let slot = node.0 as usize;
@@ -105,6 +106,7 @@ impl<M: Machine> Cells<M> {
         requires bytes { bytes ≡ M.meanings.size happened }
         requires small { M.meanings.size happened ≤ 2097152 }
         ensures place { result < 131072 }
+        ensures placed { IsPlaced M.meanings pass.old.seat.me.0.deal.starts (record { node = held.old.node.0; events = held.old.cell.events.items }) result happened }
         ensures view { pass.new.seat.me ≡ (grown M.meanings pass.old.seat.me.0 result happened, (held.old.node.0, Nothing) ∷ []) }
         ensures account { pass.new.account ≡ charged pass.old.account bytes }
         ensures table { pass.new.seat.table_id ≡ pass.old.seat.table_id }
