@@ -1,0 +1,13 @@
+pub mod Waiting
+pub mod Lists
+pub mod Outcomes
+pub mod Round
+pub mod Moving
+pub mod Follows
+pub mod Rows
+pub mod StorageTaken
+pub mod OthersTaken
+pub mod Delivering
+pub mod Ticking
+pub mod Turns
+pub mod Copying

@@ -1,0 +1,31 @@
+//! The laws of rounds. Each function does nothing: its contract is the law.
+
+ghost use Rattle.std.specs.Prelude.{◌≡◌, ◌*◌, ℕ, List};
+ghost use Rattle.history_frame.specs.declared.inputs.Input.TheVariants.{Tick};
+ghost use Rattle.history_frame.specs.declared.inputs.Mark.TheVariants.{Done};
+ghost use Rattle.log_base.specs.ClusterShape.{InRange, Shape};
+ghost use Rattle.record_frame.specs.declared.values.Value.{Value};
+ghost use Rattle.quiet_model.specs.Ahead.{IsAhead};
+ghost use Rattle.quiet_model.specs.Moments.{IsRound, Moment};
+ghost use Rattle.quiet_model.specs.Settled.{AreHeard, IsSettled, ListsOf};
+
+/// Where primaries are ahead of their peers by one entry at most, a tick of all storage nodes and the
+/// delivery of all letters make all replicas hold the longer lists. Then each primary knows that they do, and
+/// each gatherer has heard of it.
+pub fn copies_catch_up()
+    ensures { (config : Shape) (ballot : ℕ) (from to : ListsOf) (values : List Value) (before after : Moment)
+        → InRange config
+        → IsAhead config ballot from to values before
+        → IsRound config Tick Done 0 (config.replicas * config.shards) before after
+        → IsSettled config ballot to values after × AreHeard config to after }
+{}
+
+/// The same round leaves a settled moment as it was, and each gatherer has heard how much all replicas
+/// hold.
+pub fn settled_stays_settled()
+    ensures { (config : Shape) (ballot : ℕ) (lists : ListsOf) (values : List Value) (before after : Moment)
+        → InRange config
+        → IsSettled config ballot lists values before
+        → IsRound config Tick Done 0 (config.replicas * config.shards) before after
+        → IsSettled config ballot lists values after × AreHeard config lists after }
+{}

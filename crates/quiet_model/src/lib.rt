@@ -1,0 +1,13 @@
+//! Quiet runs, in the model: what all nodes are at a settled moment, and what the rounds of settling make
+//! of it.
+//!
+//! `specs/Moments.antt` says what a moment of a run is and how one comes from another, `specs/Settled.antt`
+//! what is so at a settled one, `specs/Ahead.antt` what is so where primaries are ahead of their peers. The
+//! functions do nothing: their contracts are the laws.
+#![tactic(auto)]
+
+mod laws;
+mod steps;
+
+pub use laws::{copies_catch_up, settled_stays_settled};
+pub use steps::{known_copy_is_acknowledged, next_copy_is_stored};
