@@ -1,5 +1,5 @@
 -- A round of copying: from primaries that are ahead to a settled moment.
-use Rattle.std.proofs.Common.{◌≡◌, ◌≢◌, ◌⊎◌, ◌+◌, ◌*◌, ◌%◌, ◌<◌, ◌≤◌, ℕ, zero, suc, List, [], ◌∷◌, ◌++◌, length, Option, Some, None, refl, sym, ap, subst, inl, inr, ⊎_elim, arith, length-append, ◌∙◌}
+use Rattle.std.proofs.Common.{◌≡◌, ◌≢◌, ◌+◌, ◌*◌, ◌%◌, ◌<◌, ◌≤◌, ℕ, List, [], ◌∷◌, length, Option, Some, None, refl, sym, ap, subst, inl, inr, ⊎_elim, arith, length-append, ◌∙◌}
 use Rattle.std.specs.Prelude.{slice_index, slice_index_or}
 use Rattle.std.proofs.lemmas.Bool.{cases_eq, cases_lt}
 use Rattle.std.proofs.lemmas.List.{ext_get_or, length-set}
@@ -25,7 +25,7 @@ use Rattle.node_model.specs.StorageNode.{StorageMode, StorageNode}
 use Rattle.node_model.proofs.Lists.{list_in-past}
 use Rattle.quiet_model.specs.Ahead.{IsAhead, IsAsOrMore, Same, More, own_ahead}
 use Rattle.quiet_model.specs.Moments.{IsRound, Moment}
-use Rattle.quiet_model.specs.Settled.{AreHeard, AreLists, IsGatherer, IsHeard, IsHeardCut, IsHeardOrNone, IsOrderer, IsReplica, IsSettled, ListsOf, Stands, all_acked, cell_by, cell_in, list_at, lists_held}
+use Rattle.quiet_model.specs.Settled.{AreHeard, IsGatherer, IsHeard, IsHeardOrNone, IsOrderer, IsReplica, IsSettled, ListsOf, Stands, all_acked, cell_by, cell_in, list_at, lists_held}
 use Rattle.quiet_model.proofs.Delivering.{all_delivered}
 use Rattle.quiet_model.proofs.Follows.{as_role, gatherer_below}
 use Rattle.quiet_model.proofs.Lists.{report_at, report_cells, report_count, same_lists}

@@ -1,5 +1,5 @@
 -- Each letter of a round is delivered, and the round is under way all the time.
-use Rattle.std.proofs.Common.{◌≡◌, ◌%◌, ◌<◌, ℕ, zero, suc, List, [], ◌∷◌, subst, arith}
+use Rattle.std.proofs.Common.{◌≡◌, ◌%◌, ℕ, zero, suc, List, ◌∷◌, subst}
 use Rattle.history_frame.specs.declared.events.Sent.{Sent}
 use Rattle.history_frame.specs.declared.inputs.Input.TheVariants.{Deliver}
 use Rattle.history_frame.specs.declared.inputs.Mark.TheVariants.{Done}
@@ -12,7 +12,7 @@ use Rattle.log_base.specs.declared.numbers.Slot.{Slot}
 use Rattle.message_frame.specs.declared.messages.Message.{Message}
 use Rattle.message_frame.specs.declared.messages.Message.TheVariants.{Copy, CopyAck, Report, Least, Prepare, Promised, Lower, Accept, Accepted, Decide, Want}
 use Rattle.node_table.specs.declared.role.Role.{Role}
-use Rattle.node_table.specs.declared.role.Role.TheVariants.{Storage, Gatherer, Orderer}
+use Rattle.node_table.specs.declared.role.Role.TheVariants.{Gatherer, Orderer}
 use Rattle.node_table.specs.Numbering.{IsRole, gatherer_node, node_of, orderer_node, storage_node}
 use Rattle.record_frame.specs.declared.entries.Entry.{Entry}
 use Rattle.record_frame.specs.declared.values.Lengths.{Lengths}
@@ -98,11 +98,11 @@ module _ (round : Round) (range : InRange round.config) (lists : IsRoundOf round
   delivered : (before after : Moment) → IsUnderWay round before → IsDelivery round.config before after → IsUnderWay round after
   delivered before after under d =
       let old : IsUnderWay round (record { nodes = before.nodes; queue = d.sent ∷ d.rest }) =
-          subst (λ (queue : List Sent). IsUnderWay round (record { nodes = before.nodes; queue = queue })) d.first under in
+      subst (λ (queue : List Sent). IsUnderWay round (record { nodes = before.nodes; queue = queue })) d.first under in
       let some : IsSomewhere round before.nodes d.sent.to.0 d.sent.message d.place d.index =
-          somewhere before.nodes old.nodes d.sent.to.0 d.place d.index d.sent.message old.letters.0 in
+      somewhere before.nodes old.nodes d.sent.to.0 d.place d.index d.sent.message old.letters.0 in
       let taken : Takes round.config (record { nodes = before.nodes; queue = d.rest }) (node_of round.config some.role) (Deliver d.place d.index (Some d.sent.message)) Done d.reply after =
-          subst (λ (n : ℕ). Takes round.config (record { nodes = before.nodes; queue = d.rest }) n (Deliver d.place d.index (Some d.sent.message)) Done d.reply after) some.at d.taken in
+      subst (λ (n : ℕ). Takes round.config (record { nodes = before.nodes; queue = d.rest }) n (Deliver d.place d.index (Some d.sent.message)) Done d.reply after) some.at d.taken in
       goes_on round range d.sent (record { nodes = before.nodes; queue = d.rest }) after some.role some.is some.at some.taken.made
       (moved round.config (record { nodes = before.nodes; queue = d.rest }) after some.role (Deliver d.place d.index (Some d.sent.message)) Done d.reply some.is taken some.taken.made some.taken.rule)
       old some.taken.handled

@@ -1,5 +1,5 @@
 -- What the delivery of a letter brings on at its addressee, and that the round is under way after it.
-use Rattle.std.proofs.Common.{◌≡◌, ◌≢◌, ◌⊎◌, ◌+◌, ◌*◌, ◌%◌, ◌<◌, ◌≤◌, ℕ, List, [], ◌∷◌, ◌++◌, length, Option, Some, None, refl, sym, subst, inl, inr, ⊎_elim, arith, ◌∙◌}
+use Rattle.std.proofs.Common.{◌≡◌, ◌≢◌, ◌⊎◌, ◌+◌, ◌*◌, ◌%◌, ◌<◌, ℕ, List, ◌∷◌, Some, refl, sym, subst, inl, inr, ⊎_elim, arith, ◌∙◌}
 use Rattle.history_frame.specs.declared.events.Sent.{Sent}
 use Rattle.history_frame.specs.declared.inputs.Input.TheVariants.{Deliver}
 use Rattle.history_frame.specs.declared.inputs.Mark.TheVariants.{Done}

@@ -11,3 +11,4 @@ pub mod Delivering
 pub mod Ticking
 pub mod Turns
 pub mod Copying
+pub mod Still

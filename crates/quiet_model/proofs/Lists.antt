@@ -28,6 +28,12 @@ same_lists (x ∷ one) (y ∷ other) n h =
     let tail : one ≡ other = same_lists one other (omega arith) (λ segment below. h (suc segment) (omega arith)) in
     cc
 
+-- a list that is replaced by itself
+pub set_same : (lists : List (List Entry)) (segment : ℕ) → slice_set lists segment (list_in lists segment) ≡ lists
+set_same [] segment = refl
+set_same (x ∷ lists) zero = refl
+set_same (x ∷ lists) (suc segment) = ap (λ (rest : List (List Entry)). x ∷ rest) (set_same lists segment)
+
 -- ---- reports
 
 zeros_at : (n k : ℕ) → slice_index (replicate n 0) k ≡ 0

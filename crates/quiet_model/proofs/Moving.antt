@@ -1,17 +1,16 @@
 -- A node takes an input: which nodes stay, and which letters follow.
-use Rattle.std.proofs.Common.{◌≡◌, ◌⊎◌, ◌+◌, ◌*◌, ◌/◌, ◌%◌, ◌<◌, ℕ, List, ◌++◌, Some, sym, ap, inl, inr, ⊎_elim, ◌∙◌}
+use Rattle.std.proofs.Common.{◌≡◌, ◌⊎◌, ◌+◌, ◌*◌, ◌/◌, ◌%◌, ◌<◌, ℕ, ◌++◌, Some, sym, ap, inl, inr, ⊎_elim, ◌∙◌}
 use Rattle.std.proofs.lemmas.Bool.{cases_eq}
 use Rattle.std.proofs.lemmas.Nat.{div-mul-add, mod-mul-add}
 use Rattle.std.proofs.lemmas.Option.{same_Some}
 use Rattle.reply_frame.specs.declared.replies.Reply.{Reply}
-use Rattle.history_frame.specs.declared.events.Sent.{Sent}
 use Rattle.history_frame.specs.declared.inputs.Input.{Input}
 use Rattle.history_frame.specs.declared.inputs.Mark.{Mark}
 use Rattle.log_base.specs.ClusterShape.{Shape}
 use Rattle.node_table.specs.declared.role.Role.{Role}
 use Rattle.node_table.specs.Numbering.{IsRole, node_of, role_at}
 use Rattle.node_table.proofs.Roles.{role_at-node_of}
-use Rattle.node_model.specs.NodeState.{NodeOutcome, NodeState, node_outcome}
+use Rattle.node_model.specs.NodeState.{NodeOutcome, node_outcome}
 use Rattle.quiet_model.specs.Moments.{Moment, Takes}
 
 pub record Moves (config : Shape) (before after : Moment) (role : Role) (made : NodeOutcome) : Type 0 where

@@ -1,13 +1,13 @@
 -- Reports that are delivered to a gatherer in a round, and wants that are delivered to an orderer.
-use Rattle.std.proofs.Common.{◌≡◌, ◌≢◌, ◌⊎◌, ◌+◌, ◌*◌, ◌<◌, ◌≤◌, ℕ, zero, suc, max, List, [], ◌∷◌, ◌++◌, length, get_or, set, Option, Some, None, refl, sym, ap, subst, inl, inr, ⊎_elim, arith, ◌∙◌}
+use Rattle.std.proofs.Common.{◌≡◌, ◌⊎◌, ◌+◌, ◌*◌, ◌<◌, ◌≤◌, ℕ, zero, suc, List, [], ◌∷◌, length, Option, Some, None, refl, sym, ap, subst, inl, inr, ⊎_elim, arith, ◌∙◌}
 use Rattle.std.specs.Prelude.{slice_index, slice_index_or, slice_set}
 use Rattle.std.proofs.lemmas.List.{get_or-set_same, length-set}
 use Rattle.std.proofs.Math.Nat.{mul-le-mul_left}
-use Rattle.aggregator.specs.Hearing.{Hearing, after_note, greater_of, heard_after}
+use Rattle.aggregator.specs.Hearing.{Hearing, after_note, heard_after}
 use Rattle.aggregator.proofs.Merged.{get_or-greater_of, length-greater_of}
 use Rattle.reply_frame.specs.declared.replies.Reply.{Nothing}
 use Rattle.history_frame.specs.declared.inputs.Input.TheVariants.{Deliver}
-use Rattle.log_base.specs.ClusterShape.{InRange, Shape}
+use Rattle.log_base.specs.ClusterShape.{InRange}
 use Rattle.log_base.specs.declared.numbers.NodeId.{NodeId}
 use Rattle.log_base.specs.declared.numbers.Replica.{Replica as ReplicaNumber}
 use Rattle.log_base.specs.declared.numbers.Shard.{Shard}
@@ -17,7 +17,7 @@ use Rattle.message_frame.specs.declared.messages.Message.TheVariants.{Report, Wa
 use Rattle.node_table.specs.declared.role.Role.TheVariants.{Gatherer, Orderer}
 use Rattle.record_frame.specs.declared.entries.Entry.{Entry}
 use Rattle.record_frame.specs.declared.values.Lengths.{Lengths}
-use Rattle.node_model.specs.GathererRow.{GathererChange, GathererNode, hears, on_report}
+use Rattle.node_model.specs.GathererRow.{GathererNode, hears, on_report}
 use Rattle.node_model.specs.Marks.{Mode, Running}
 use Rattle.node_model.specs.NodeState.{Gathering, Ordering}
 use Rattle.node_model.specs.OrdererNode.{Change, Node}

@@ -1,19 +1,18 @@
 -- What a running node makes of an input that has a row: it follows the row.
-use Rattle.std.proofs.Common.{◌≡◌, ◌<◌, ℕ, Bool, true, false, Option, Some, None, refl, ap, ◌∙◌}
+use Rattle.std.proofs.Common.{◌≡◌, ◌<◌, ℕ, true, Option, Some, ap, ◌∙◌}
 use Rattle.history_frame.specs.declared.inputs.Input.{Input}
 use Rattle.history_frame.specs.declared.inputs.Input.TheVariants.{Deliver, Call as ACall, Tick, Lead, Stop, Restart}
-use Rattle.history_frame.specs.declared.inputs.Mark.{Mark}
 use Rattle.history_frame.specs.declared.inputs.Mark.TheVariants.{Done}
 use Rattle.log_base.specs.ClusterShape.{Shape}
 use Rattle.node_table.specs.declared.role.Role.{Role}
 use Rattle.node_table.specs.declared.role.Role.TheVariants.{Storage, Gatherer, Orderer}
 use Rattle.node_table.specs.Numbering.{gatherer_node, orderer_node, storage_node}
 use Rattle.node_table.proofs.Roles.{role_at-node_of}
-use Rattle.node_model.specs.GathererRow.{GathererChange, GathererNode, GathererOutcome, gatherer_role, row as gatherer_row, outcome as gatherer_outcome}
+use Rattle.node_model.specs.GathererRow.{GathererChange, GathererNode, gatherer_role, row as gatherer_row, outcome as gatherer_outcome}
 use Rattle.aggregator.specs.Hearing.{Hearing}
 use Rattle.node_model.specs.Marks.{ChangeOf, Mode, NodeOf, OutcomeOf, RoleOf, Running, made_by, row_made, stored_with, usual_made}
 use Rattle.node_model.specs.Naming.{is_row_input}
-use Rattle.node_model.specs.NodeState.{NodeOutcome, NodeState, Storing, Gathering, Ordering, as_outcome, node_outcome, outcome_as}
+use Rattle.node_model.specs.NodeState.{Storing, Gathering, Ordering, as_outcome, node_outcome, outcome_as}
 use Rattle.node_model.specs.OrdererNode.{Change, Node, Orderer as OrdererMemory}
 use Rattle.node_model.specs.OrdererRow.{orderer_role, row as orderer_row, outcome as orderer_outcome}
 use Rattle.node_model.specs.StorageNode.{Replica, StorageChange, StorageNode, member_of}

@@ -1,15 +1,15 @@
 -- A round of copying under way: what is so of each node and of each letter, and how far each segment has come at each replica.
-use Rattle.std.proofs.Common.{◌≡◌, ◌≢◌, ◌⊎◌, ◌+◌, ◌*◌, ◌%◌, ◌<◌, ◌≤◌, ℕ, List, [], ◌∷◌, ◌++◌, length, Option, Some, None}
+use Rattle.std.proofs.Common.{◌≡◌, ◌≢◌, ◌⊎◌, ◌+◌, ◌*◌, ◌<◌, ◌≤◌, ℕ, List, [], ◌∷◌, ◌++◌, length, Option, Some, None}
 use Rattle.std.specs.Prelude.{slice_index}
 use Rattle.std.specs.List.{AllByRecursion}
 use Rattle.history_frame.specs.declared.events.Sent.{Sent}
 use Rattle.log_base.specs.ClusterShape.{Shape}
-use Rattle.log_model.specs.Storage.{Knowledge, knowledge_of, list_in}
+use Rattle.log_model.specs.Storage.{knowledge_of, list_in}
 use Rattle.message_frame.specs.declared.messages.Message.{Message}
-use Rattle.message_frame.specs.declared.messages.Message.TheVariants.{Copy, CopyAck, Report, Least, Prepare, Promised, Lower, Accept, Accepted, Decide, Want}
+use Rattle.message_frame.specs.declared.messages.Message.TheVariants.{Copy, CopyAck, Report, Want}
 use Rattle.node_table.specs.declared.role.Role.{Role}
 use Rattle.node_table.specs.declared.role.Role.TheVariants.{Storage, Gatherer, Orderer}
-use Rattle.node_table.specs.Numbering.{IsRole, gatherer_node, gatherer_of, node_of, orderer_node, storage_node}
+use Rattle.node_table.specs.Numbering.{IsRole, gatherer_of, node_of, orderer_node, storage_node}
 use Rattle.record_frame.specs.declared.entries.Entry.{Entry}
 use Rattle.record_frame.specs.declared.values.Lengths.{Lengths}
 use Rattle.record_frame.specs.declared.values.Value.{Value}

@@ -1,13 +1,12 @@
 -- What the rows of a round do: a copy that is next is stored, one that is there is acknowledged, a note of one entry more opens no
 -- window, a window has the one entry more, and one that knows as much is told nothing.
-use Rattle.std.proofs.Common.{◌≡◌, ◌+◌, ◌-◌, ◌<◌, ◌≤◌, ℕ, zero, suc, Bool, true, false, cond, ◌==◌, nat_lt, min, max, List, [], ◌∷◌, ◌++◌, length, slice_get, Option, Some, None, refl, sym, ap, subst, arith, eq-eqb, lt-ltb, length-append, ◌∙◌}
+use Rattle.std.proofs.Common.{◌≡◌, ◌+◌, ◌-◌, ◌<◌, ◌≤◌, ℕ, zero, suc, Bool, true, false, cond, ◌==◌, nat_lt, min, max, List, [], ◌∷◌, ◌++◌, length, slice_get, Option, Some, refl, sym, ap, subst, arith, eq-eqb, lt-ltb, length-append, ◌∙◌}
 use Rattle.std.proofs.lemmas.Bool.{cond-false, cond-true, ne_eqb}
 use Rattle.std.proofs.lemmas.Option.{slice_get_past}
 use Rattle.reply_frame.specs.declared.replies.Reply.{Nothing}
 use Rattle.log_base.specs.ClusterShape.{Shape}
 use Rattle.log_model.specs.Storage.{Member, list_in, with_entry}
 use Rattle.peer_copy.specs.Copying.{offsets_from, offsets_of, span_of_note, taking_of, window_at}
-use Rattle.peer_copy.specs.declared.taking.Taking.{Taking}
 use Rattle.peer_copy.specs.declared.taking.Taking.TheVariants.{Put as IsNext, Have as IsThere, Gap as IsMissing}
 use Rattle.record_frame.specs.declared.entries.Entry.{Entry}
 use Rattle.record_frame.specs.declared.values.Value.{Value}
@@ -15,7 +14,7 @@ use Rattle.node_model.specs.Messages.{copy_message}
 use Rattle.node_model.specs.Nodes.{letter}
 use Rattle.node_table.specs.Numbering.{storage_node}
 use Rattle.node_model.specs.OrdererRow.{decide_letter, decide_letters}
-use Rattle.node_model.specs.StorageNode.{Put, Replica, StorageChange}
+use Rattle.node_model.specs.StorageNode.{Put, Replica}
 use Rattle.node_model.specs.StorageRow.{ack, copied_as, copies, copy_letter, on_copy, report, told}
 
 module _ (config : Shape) (member : Member) (lists : List (List Entry)) (memory : Replica) (put : Put) (offset : ℕ) where

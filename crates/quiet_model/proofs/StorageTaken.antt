@@ -1,29 +1,28 @@
 -- Copies and acknowledgements that are delivered to a replica in a round.
-use Rattle.std.proofs.Common.{◌≡◌, ◌≢◌, ◌⊎◌, ◌+◌, ◌*◌, ◌<◌, ◌≤◌, ℕ, zero, suc, max, List, [], ◌∷◌, ◌++◌, length, get_or, set, Option, Some, None, refl, sym, ap, subst, inl, inr, ⊎_elim, arith, length-append, ◌∙◌}
-use Rattle.std.specs.Prelude.{slice_index, slice_set}
+use Rattle.std.proofs.Common.{◌≡◌, ◌≢◌, ◌⊎◌, ◌+◌, ◌<◌, ◌≤◌, ℕ, max, List, [], ◌∷◌, ◌++◌, length, Some, refl, sym, ap, subst, inl, inr, ⊎_elim, arith, length-append, ◌∙◌}
+use Rattle.std.specs.Prelude.{slice_index}
 use Rattle.std.proofs.lemmas.Bool.{cases_eq, cases_lt}
 use Rattle.std.proofs.lemmas.List.{get_or-set_other, get_or-set_same, length-set}
 use Rattle.reply_frame.specs.declared.replies.Reply.{Nothing}
-use Rattle.history_frame.specs.declared.events.Sent.{Sent}
 use Rattle.history_frame.specs.declared.inputs.Input.TheVariants.{Deliver}
-use Rattle.log_base.specs.ClusterShape.{InRange, Shape}
+use Rattle.log_base.specs.ClusterShape.{InRange}
 use Rattle.log_base.specs.declared.numbers.Replica.{Replica as ReplicaNumber}
 use Rattle.log_model.specs.Storage.{list_in, report_of, with_entry}
 use Rattle.message_frame.specs.declared.messages.Message.TheVariants.{Copy, CopyAck}
-use Rattle.node_table.specs.Numbering.{gatherer_of, storage_node}
+use Rattle.node_table.specs.Numbering.{gatherer_of}
 use Rattle.peer_copy.specs.Copying.{after_note, offsets_of, span_of_note}
 use Rattle.record_frame.specs.declared.entries.Entry.{Entry}
-use Rattle.node_model.specs.Marks.{Mode, Running}
-use Rattle.node_model.specs.NodeState.{NodeState, Storing}
-use Rattle.node_model.specs.StorageNode.{Put, Replica, StorageChange, StorageMode, StorageNode, member_of}
+use Rattle.node_model.specs.Marks.{Running}
+use Rattle.node_model.specs.NodeState.{Storing}
+use Rattle.node_model.specs.StorageNode.{Replica, StorageChange, StorageMode, StorageNode, member_of}
 use Rattle.node_model.specs.StorageRow.{ack, copies, on_copied, report, told}
 use Rattle.node_model.proofs.Lists.{length-with_entry, list_in-other, list_in-past, list_in-same}
 use Rattle.quiet_model.specs.Ahead.{IsAsOrMore, Same, More}
 use Rattle.quiet_model.specs.Settled.{IsHeard, list_at}
-use Rattle.quiet_model.proofs.Follows.{CopyDone, IsTaken, ReplicaDoes, ReplicaFollows, as_role}
+use Rattle.quiet_model.proofs.Follows.{CopyDone, IsTaken, ReplicaFollows, as_role}
 use Rattle.quiet_model.proofs.Lists.{report_at, report_cells, report_count}
 use Rattle.quiet_model.proofs.Outcomes.{replica_takes}
-use Rattle.quiet_model.proofs.Round.{Round, AreGoodLetters, IsCatchingUp, IsGoodAck, IsGoodReport, IsReportTo, IsRoundOf, acked_by, goal_of}
+use Rattle.quiet_model.proofs.Round.{Round, AreGoodLetters, IsCatchingUp, IsGoodReport, IsReportTo, IsRoundOf, acked_by, goal_of}
 use Rattle.quiet_model.proofs.Rows.{known_copy, next_copy, nothing_opens}
 use Rattle.quiet_model.proofs.Waiting.{Waits}
 

@@ -1,5 +1,5 @@
 -- A tick of a replica in a round: the letters that it puts out.
-use Rattle.std.proofs.Common.{◌≡◌, ◌≢◌, ◌⊎◌, ◌+◌, ◌*◌, ◌%◌, ◌<◌, ◌≤◌, ℕ, zero, suc, cond, ◌==◌, List, [], ◌∷◌, ◌++◌, length, Some, None, refl, sym, ap, subst, inl, inr, ⊎_elim, arith, ◌∙◌}
+use Rattle.std.proofs.Common.{◌≡◌, ◌≢◌, ◌+◌, ◌%◌, ◌<◌, ◌≤◌, ℕ, zero, suc, cond, ◌==◌, List, [], ◌∷◌, ◌++◌, length, Some, refl, sym, ap, subst, inl, ⊎_elim, arith, ◌∙◌}
 use Rattle.std.specs.Prelude.{slice_index}
 use Rattle.std.proofs.lemmas.Bool.{cases_eq, cond-false, cond_both, eqb-false, ne_eqb}
 use Rattle.std.proofs.lemmas.List.{length-set}
@@ -7,7 +7,7 @@ use Rattle.reply_frame.specs.declared.replies.Reply.{Nothing}
 use Rattle.history_frame.specs.declared.events.Sent.{Sent}
 use Rattle.history_frame.specs.declared.inputs.Input.TheVariants.{Tick}
 use Rattle.history_frame.specs.declared.inputs.Mark.TheVariants.{Done}
-use Rattle.log_base.specs.ClusterShape.{InRange, Shape}
+use Rattle.log_base.specs.ClusterShape.{InRange}
 use Rattle.log_model.specs.Storage.{Knowledge, list_in, report_of}
 use Rattle.node_table.specs.Numbering.{gatherer_of, storage_node}
 use Rattle.peer_copy.specs.Copying.{offsets_of, window_at}
@@ -15,7 +15,7 @@ use Rattle.record_frame.specs.declared.entries.Entry.{Entry}
 use Rattle.node_model.specs.Marks.{Running}
 use Rattle.node_model.specs.Messages.{copy_message}
 use Rattle.node_model.specs.Nodes.{letter}
-use Rattle.node_model.specs.NodeState.{NodeOutcome, NodeState, Storing, node_outcome}
+use Rattle.node_model.specs.NodeState.{NodeOutcome, Storing, node_outcome}
 use Rattle.node_model.specs.StorageNode.{Replica, StorageChange, StorageNode, member_of}
 use Rattle.node_model.specs.StorageRow.{copies, on_tick, report, told, want, windows}
 use Rattle.node_model.proofs.Letters.{all_append}
@@ -23,7 +23,7 @@ use Rattle.quiet_model.specs.Ahead.{IsAsOrMore, Same, More, own_ahead}
 use Rattle.quiet_model.specs.Settled.{IsReplica, list_at}
 use Rattle.quiet_model.proofs.Lists.{list_here, list_other, report_at}
 use Rattle.quiet_model.proofs.Outcomes.{replica_takes}
-use Rattle.quiet_model.proofs.Round.{Round, AreGoodLetters, IsCopyTo, IsGoodLetter, IsGoodReport, IsGoodWant, IsReportTo, IsRoundOf, goal_of}
+use Rattle.quiet_model.proofs.Round.{Round, AreGoodLetters, IsCopyTo, IsGoodLetter, IsGoodReport, IsReportTo, IsRoundOf, goal_of}
 use Rattle.quiet_model.proofs.Rows.{no_copies, one_copy}
 use Rattle.quiet_model.proofs.StorageTaken.{not_shorter, report_heard}
 use Rattle.quiet_model.proofs.Waiting.{Waits, waits_left, waits_right}

@@ -1,15 +1,14 @@
 -- The replicas tick in turn: which letters wait once some of them did.
-use Rattle.std.proofs.Common.{◌≡◌, ◌≢◌, ◌⊎◌, ◌+◌, ◌-◌, ◌*◌, ◌/◌, ◌%◌, ◌<◌, ◌≤◌, ℕ, zero, suc, List, [], ◌∷◌, ◌++◌, length, Some, None, refl, sym, ap, subst, inl, inr, ⊎_elim, arith, ◌∙◌}
+use Rattle.std.proofs.Common.{◌≡◌, ◌≢◌, ◌+◌, ◌*◌, ◌/◌, ◌%◌, ◌<◌, ◌≤◌, ℕ, zero, suc, [], ◌∷◌, ◌++◌, length, Some, sym, subst, ⊎_elim, arith, ◌∙◌}
 use Rattle.std.proofs.lemmas.Bool.{cases_eq, cases_lt}
 use Rattle.std.proofs.Math.Nat.{mul-le-mul_left}
 use Rattle.reply_frame.specs.declared.replies.Reply.{Reply}
 use Rattle.history_frame.specs.declared.events.Sent.{Sent}
 use Rattle.history_frame.specs.declared.inputs.Input.TheVariants.{Tick}
 use Rattle.history_frame.specs.declared.inputs.Mark.TheVariants.{Done}
-use Rattle.log_base.specs.ClusterShape.{InRange, Shape}
+use Rattle.log_base.specs.ClusterShape.{InRange}
 use Rattle.log_model.specs.Storage.{list_in}
 use Rattle.node_table.specs.declared.role.Role.{Role}
-use Rattle.node_table.specs.declared.role.Role.TheVariants.{Storage, Gatherer, Orderer}
 use Rattle.node_table.specs.Numbering.{IsRole, node_of, storage_node}
 use Rattle.record_frame.specs.declared.entries.Entry.{Entry}
 use Rattle.node_model.specs.NodeState.{NodeOutcome, NodeState, Storing, Gathering, Ordering, node_outcome}

@@ -1,5 +1,5 @@
 -- A moment at which primaries may be ahead of their peers: each may hold one entry more at the end of its own list.
-use Rattle.std.specs.Prelude.{◌≡◌, ℕ, ◌<◌, List, [], ◌∷◌, ◌++◌, length, slice_set}
+use Rattle.std.specs.Prelude.{◌≡◌, ℕ, ◌<◌, List, [], ◌∷◌, ◌++◌, slice_set}
 use Rattle.log_base.specs.ClusterShape.{Shape}
 use Rattle.node_table.specs.declared.role.Role.{Role}
 use Rattle.node_table.specs.Numbering.{IsRole, node_of}

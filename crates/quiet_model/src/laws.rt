@@ -29,3 +29,10 @@ pub fn settled_stays_settled()
         → IsRound config Tick Done 0 (config.replicas * config.shards) before after
         → IsSettled config ballot lists values after × AreHeard config lists after }
 {}
+
+/// A settled moment is one at which no primary is ahead.
+pub fn none_is_ahead()
+    ensures { (config : Shape) (ballot : ℕ) (lists : ListsOf) (values : List Value) (moment : Moment)
+        → IsSettled config ballot lists values moment
+        → IsAhead config ballot lists lists values moment }
+{}
