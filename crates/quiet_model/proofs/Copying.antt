@@ -25,7 +25,7 @@ use Rattle.node_model.specs.StorageNode.{StorageMode, StorageNode}
 use Rattle.node_model.proofs.Lists.{list_in-past}
 use Rattle.quiet_model.specs.Ahead.{IsAhead, IsAsOrMore, Same, More, own_ahead}
 use Rattle.quiet_model.specs.Moments.{IsRound, Moment}
-use Rattle.quiet_model.specs.Settled.{AreHeard, IsGatherer, IsHeard, IsHeardOrNone, IsOrderer, IsReplica, IsSettled, ListsOf, Stands, all_acked, cell_by, cell_in, list_at, lists_held}
+use Rattle.quiet_model.specs.Settled.{Agreed, AreHeard, IsGatherer, IsHeard, IsHeardOrNone, IsOrderer, IsReplica, IsSettled, ListsOf, Stands, all_acked, cell_by, cell_in, list_at, lists_held}
 use Rattle.quiet_model.proofs.Delivering.{all_delivered}
 use Rattle.quiet_model.proofs.Follows.{as_role, gatherer_below}
 use Rattle.quiet_model.proofs.Lists.{report_at, report_cells, report_count, same_lists}
@@ -50,12 +50,12 @@ module _ (config : Shape) (from to : ListsOf) (grow : (s p : ℕ) → s < config
     heard = λ s r a b. heard_grows s a (slice_index_or g.hearing.cells (s * config.replicas + r) None) (g.heard s r a b);
   }
 
-  orderer_grows : (ballot i : ℕ) (values : List Value) (node : Node) → IsOrderer config ballot i from values node → IsOrderer config ballot i to values node
-  orderer_grows ballot i values node o = record {
+  orderer_grows : (agreed : Agreed) (i : ℕ) (node : Node) → IsOrderer config agreed i from node → IsOrderer config agreed i to node
+  orderer_grows agreed i node o = record {
     orderer = o.orderer;
     runs = o.runs;
     knows = o.knows;
-    no_wish = o.no_wish;
+    wishes = o.wishes;
     heard = record {
       count = o.heard.count;
       cells = o.heard.cells;
@@ -88,7 +88,7 @@ module _ (round : Round) (range : InRange round.config) (lists : IsRoundOf round
   acked_at_first s r (Ordering node) h peer below other = absurd h
 
   replica_begins : (s r : ℕ) → s < round.config.shards → r < round.config.replicas → (node : StorageNode)
-      → IsReplica round.config s r (own_ahead round.from round.to s r) (length (list_at round.from s r)) round.values node → IsCatchingUp round s r node
+      → IsReplica round.config s r (own_ahead round.from round.to s r) (length (list_at round.from s r)) round.agreed.values node → IsCatchingUp round s r node
   replica_begins s r a b node h = record {
     memory = h.memory;
     runs = h.runs;
@@ -108,7 +108,7 @@ module _ (round : Round) (range : InRange round.config) (lists : IsRoundOf round
   node_begins : (role : Role) → IsRole round.config role → (state : NodeState) → IsBegun round role state → IsIn round role state
   node_begins (Storage s r) is (Storing node) h = replica_begins s.0 r.0 is.0 is.1 node h
   node_begins (Gatherer i) is (Gathering node) h = gatherer_grows round.config round.from round.to grow node h
-  node_begins (Orderer i) is (Ordering node) h = orderer_grows round.config round.from round.to grow round.ballot i round.values node h
+  node_begins (Orderer i) is (Ordering node) h = orderer_grows round.config round.from round.to grow round.agreed i node h
   node_begins (Storage s r) is (Gathering node) h = absurd h
   node_begins (Storage s r) is (Ordering node) h = absurd h
   node_begins (Gatherer i) is (Storing node) h = absurd h
@@ -182,7 +182,7 @@ module _ (round : Round) (range : InRange round.config) (lists : IsRoundOf round
     is_told s p r (Copies_new short w) = absurd w
 
     replica_ends : (s r : ℕ) → s < round.config.shards → r < round.config.replicas → (node : StorageNode) → nodes (storage_node round.config s r) ≡ Storing node → IsCatchingUp round s r node
-        → IsReplica round.config s r (round.to s) (goal_of round s r) round.values node
+        → IsReplica round.config s r (round.to s) (goal_of round s r) round.agreed.values node
     replica_ends s r a b node is h = record {
       memory = h.memory;
       runs = h.runs;
@@ -203,7 +203,7 @@ module _ (round : Round) (range : InRange round.config) (lists : IsRoundOf round
             (cases_eq p r)
 
     node_ends : (role : Role) → IsRole round.config role → (state : NodeState) → nodes (node_of round.config role) ≡ state → IsIn round role state
-        → Stands round.config round.ballot (lists_held round.to) (all_acked round.to) round.to round.values role state
+        → Stands round.config round.agreed (lists_held round.to) (all_acked round.to) round.to role state
     node_ends (Storage s r) is (Storing node) e h = replica_ends s.0 r.0 is.0 is.1 node e h
     node_ends (Gatherer i) is (Gathering node) e h = h
     node_ends (Orderer i) is (Ordering node) e h = h
@@ -214,7 +214,7 @@ module _ (round : Round) (range : InRange round.config) (lists : IsRoundOf round
     node_ends (Orderer i) is (Storing node) e h = absurd h
     node_ends (Orderer i) is (Gathering node) e h = absurd h
 
-    pub settled : IsSettled round.config round.ballot round.to round.values (record { nodes = nodes; queue = [] })
+    pub settled : IsSettled round.config round.agreed round.to (record { nodes = nodes; queue = [] })
     settled = record {
       sizes = lists.new_sizes;
       nodes = λ role is. node_ends role is (nodes (node_of round.config role)) refl (u.nodes role is);
@@ -263,14 +263,14 @@ module _ (round : Round) (range : InRange round.config) (lists : IsRoundOf round
 
 -- ---- the laws
 
-module _ (config : Shape) (ballot : ℕ) (from to : ListsOf) (values : List Value) (before after : Moment) (range : InRange config) where
+module _ (config : Shape) (agreed : Agreed) (from to : ListsOf) (before after : Moment) (range : InRange config) where
   abbrev of_all : Round
-  of_all = record { config = config; ballot = ballot; from = from; to = to; values = values }
+  of_all = record { config = config; agreed = agreed; from = from; to = to }
 
-  pub copied_round : IsAhead config ballot from to values before → IsRound config Tick Done 0 (config.replicas * config.shards) before after
-      → IsSettled config ballot to values after × AreHeard config to after
+  pub copied_round : IsAhead config agreed from to before → IsRound config Tick Done 0 (config.replicas * config.shards) before after
+      → IsSettled config agreed to after × AreHeard config to after
   copied_round ahead round = (
-    subst (λ (queue : List Sent). IsSettled config ballot to values (record { nodes = after.nodes; queue = queue })) (sym round.deliveries.none_left) (settled of_all range lists after.nodes ended),
+    subst (λ (queue : List Sent). IsSettled config agreed to (record { nodes = after.nodes; queue = queue })) (sym round.deliveries.none_left) (settled of_all range lists after.nodes ended),
     heard of_all range lists after.nodes ended,
   )
     where

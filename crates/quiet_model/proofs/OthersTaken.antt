@@ -137,8 +137,8 @@ module _ (round : Round) (range : InRange round.config) (i : ℕ) (within : i < 
     };
   }
 
-module _ (round : Round) (i : ℕ) (within : i < round.config.orderers) (node : Node) (o : IsOrderer round.config round.ballot i round.to round.values node)
-    (slot : Slot) (asker : NodeId) (past : length round.values ≤ slot.0) (place index : ℕ) where
+module _ (round : Round) (i : ℕ) (within : i < round.config.orderers) (node : Node) (o : IsOrderer round.config round.agreed i round.to node)
+    (slot : Slot) (asker : NodeId) (past : length round.agreed.values ≤ slot.0) (place index : ℕ) where
   abbrev want_change : Change
   want_change = told o.orderer (decide_letters asker.0 o.orderer.known slot.0 16)
 
@@ -158,7 +158,7 @@ module _ (round : Round) (i : ℕ) (within : i < round.config.orderers) (node : 
         orderer = o.orderer;
         runs = refl;
         knows = o.knows;
-        no_wish = o.no_wish;
+        wishes = o.wishes;
         heard = o.heard;
         leads = o.leads;
         promise = o.promise;

@@ -19,16 +19,15 @@ use Rattle.node_model.specs.Sequence.{lists_of}
 use Rattle.node_model.specs.StorageNode.{Replica, StorageMode, StorageNode, member_of}
 use Rattle.quiet_model.specs.Ahead.{AreAsOrMore}
 use Rattle.quiet_model.specs.Moments.{Moment}
-use Rattle.quiet_model.specs.Settled.{AreLists, IsGatherer, IsHeard, IsOrderer, ListsOf, cell_in, list_at}
+use Rattle.quiet_model.specs.Settled.{Agreed, AreLists, IsGatherer, IsHeard, IsOrderer, ListsOf, cell_in, list_at}
 use Rattle.quiet_model.proofs.Waiting.{Waits}
 
 -- the cluster, its one ballot and the known values, and the lists before and after the round
 pub record Round : Type 0 where
   pub config : Shape
-  pub ballot : ℕ
+  pub agreed : Agreed
   pub from : ListsOf
   pub to : ListsOf
-  pub values : List Value
 
 -- the length that a segment comes to
 abbrev pub goal_of : Round → ℕ → ℕ → ℕ
@@ -43,7 +42,7 @@ pub record IsCatchingUp (round : Round) (s r : ℕ) (node : StorageNode) : Type 
   pub size : length node.durable ≡ round.config.replicas
   pub own : list_in node.durable r ≡ list_at round.to s r
   pub copies : (p : ℕ) → p < round.config.replicas → (list_in node.durable p ≡ list_at round.from s p) ⊎ (list_in node.durable p ≡ list_at round.to s p)
-  pub knows : memory.known ≡ knowledge_of (member_of round.config s r) round.values
+  pub knows : memory.known ≡ knowledge_of (member_of round.config s r) round.agreed.values
   pub peers : length memory.copying.acked ≡ round.config.replicas
   pub low : (p : ℕ) → p < round.config.replicas → p ≢ r → length (list_at round.from s r) ≤ slice_index memory.copying.acked p
   pub high : (p : ℕ) → p < round.config.replicas → p ≢ r → slice_index memory.copying.acked p ≤ goal_of round s r
@@ -51,7 +50,7 @@ pub record IsCatchingUp (round : Round) (s r : ℕ) (node : StorageNode) : Type 
 abbrev pub IsIn : Round → Role → NodeState → Type 0
 IsIn round (Storage s r) (Storing node) = IsCatchingUp round s.0 r.0 node
 IsIn round (Gatherer i) (Gathering node) = IsGatherer round.config round.to node
-IsIn round (Orderer i) (Ordering node) = IsOrderer round.config round.ballot i round.to round.values node
+IsIn round (Orderer i) (Ordering node) = IsOrderer round.config round.agreed i round.to node
 IsIn round _ _ = ⊥
 
 -- what a replica was acknowledged by a peer
@@ -108,7 +107,7 @@ pub record IsGoodWant (round : Round) (node slot : ℕ) : Type 0 where
   pub index : ℕ
   pub below : index < round.config.orderers
   pub at : node ≡ orderer_node round.config index
-  pub past : length round.values ≤ slot
+  pub past : length round.agreed.values ≤ slot
 
 abbrev pub IsGoodMessage : Round → ℕ → Message → Type 0
 IsGoodMessage round node (Copy segment offset entry) = IsGoodCopy round node segment.0 offset entry

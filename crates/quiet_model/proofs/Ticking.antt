@@ -42,13 +42,13 @@ pub record Ticks (round : Round) (s r : ℕ) (node : StorageNode) : Type 0 where
   pub rule : node_outcome round.config (storage_node round.config s r) (Storing node) Tick Done ≡ Some made
   pub after : StorageNode
   pub state : made.state ≡ Storing after
-  pub stands : IsReplica round.config s r (own_ahead round.from round.to s r) (length (list_at round.from s r)) round.values after
+  pub stands : IsReplica round.config s r (own_ahead round.from round.to s r) (length (list_at round.from s r)) round.agreed.values after
   pub letters : AreGoodLetters round made.outputs
   pub copies : (p : ℕ) → p < round.config.replicas → p ≢ r → (entry : Entry) → list_at round.to s r ≡ list_at round.from s r ++ entry ∷ [] → Waits (IsCopyTo round s r p) made.outputs
   pub reports : (p : ℕ) → length (list_in (own_ahead round.from round.to s r) p) ≡ goal_of round s p → Waits (IsReportTo round s r p) made.outputs
 
 module _ (round : Round) (range : InRange round.config) (lists : IsRoundOf round) (s r : ℕ) (a : s < round.config.shards) (b : r < round.config.replicas)
-    (node : StorageNode) (h : IsReplica round.config s r (own_ahead round.from round.to s r) (length (list_at round.from s r)) round.values node) where
+    (node : StorageNode) (h : IsReplica round.config s r (own_ahead round.from round.to s r) (length (list_at round.from s r)) round.agreed.values node) where
   own : list_in node.durable r ≡ list_at round.to s r
   own = ap (λ (held : List (List Entry)). list_in held r) h.holds ∙ own_list round lists s r a b
 

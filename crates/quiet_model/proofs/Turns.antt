@@ -24,7 +24,7 @@ use Rattle.quiet_model.proofs.Waiting.{Waits, waits_left, waits_right}
 
 -- a node is as it was when the round began
 abbrev pub IsBegun : Round → Role → NodeState → Type 0
-IsBegun round role state = Stands round.config round.ballot (own_ahead round.from round.to) (all_acked round.from) round.from round.values role state
+IsBegun round role state = Stands round.config round.agreed (own_ahead round.from round.to) (all_acked round.from) round.from role state
 
 -- All nodes are as they were, and those below a number put out what they have more, and their reports.
 pub record IsTicking (round : Round) (next : ℕ) (moment : Moment) : Type 0 where

@@ -4,9 +4,8 @@ use Rattle.log_base.specs.ClusterShape.{Shape}
 use Rattle.node_table.specs.declared.role.Role.{Role}
 use Rattle.node_table.specs.Numbering.{IsRole, node_of}
 use Rattle.record_frame.specs.declared.entries.Entry.{Entry}
-use Rattle.record_frame.specs.declared.values.Value.{Value}
 use Rattle.quiet_model.specs.Moments.{Moment}
-use Rattle.quiet_model.specs.Settled.{AreLists, ListsOf, Stands, all_acked, list_at}
+use Rattle.quiet_model.specs.Settled.{Agreed, AreLists, ListsOf, Stands, all_acked, list_at}
 
 -- a list is as it was, or has one entry more
 pub data IsAsOrMore (old new : List Entry) : Type 0 where
@@ -22,9 +21,9 @@ abbrev pub own_ahead : ListsOf → ListsOf → ℕ → ℕ → List (List Entry)
 own_ahead from to shard replica = slice_set (from shard) replica (list_at to shard replica)
 
 -- All is settled at some lists, but each primary's own list is that of the new lists.
-pub record IsAhead (config : Shape) (ballot : ℕ) (from to : ListsOf) (values : List Value) (moment : Moment) : Type 0 where
+pub record IsAhead (config : Shape) (agreed : Agreed) (from to : ListsOf) (moment : Moment) : Type 0 where
   pub old_sizes : AreLists config from
   pub new_sizes : AreLists config to
   pub more : AreAsOrMore config from to
-  pub nodes : (role : Role) → IsRole config role → Stands config ballot (own_ahead from to) (all_acked from) from values role (moment.nodes (node_of config role))
+  pub nodes : (role : Role) → IsRole config role → Stands config agreed (own_ahead from to) (all_acked from) from role (moment.nodes (node_of config role))
   pub queue : moment.queue ≡ []

@@ -1,6 +1,6 @@
 -- What is so of every node at a settled moment: all replicas of a shard hold the same lists, all nodes know the same values, only
--- orderer 0 leads, nothing waits for a decision, and no letter is under way.
-use Rattle.std.specs.Prelude.{◌≡◌, ◌≢◌, ℕ, zero, suc, ◌+◌, ◌*◌, ◌<◌, ◌≤◌, List, [], length, true, Option, Some, None, slice_index, slice_index_or}
+-- orderer 0 leads, no proposal waits, and no letter is under way.
+use Rattle.std.specs.Prelude.{◌≡◌, ◌≢◌, ℕ, zero, suc, ◌+◌, ◌*◌, ◌%◌, ◌<◌, ◌≤◌, List, [], length, true, Option, Some, None, slice_index, slice_index_or}
 use Rattle.std.specs.List.{AllByRecursion}
 use Rattle.aggregator.specs.Hearing.{Hearing}
 use Rattle.log_base.specs.ClusterShape.{Shape}
@@ -11,6 +11,7 @@ use Rattle.node_table.specs.declared.role.Role.{Role}
 use Rattle.node_table.specs.declared.role.Role.TheVariants.{Storage, Gatherer, Orderer}
 use Rattle.node_table.specs.Numbering.{IsRole, gatherer_of, node_of}
 use Rattle.paxos_model.specs.Leader.{Leader, no_votes, slot_limit}
+use Rattle.paxos_model.specs.Learner.{Wish}
 use Rattle.paxos_model.specs.Majority.{most}
 use Rattle.paxos_model.specs.Votes.{promised, votes, window_size}
 use Rattle.record_frame.specs.declared.entries.Entry.{Entry}
@@ -70,9 +71,16 @@ pub record IsHeardCut (config : Shape) (lists : ListsOf) (heard : Lengths) : Typ
       → slice_index heard.length (segment_index config.replicas shard segment) ≤ length (list_at lists shard segment)
   pub rest : (place : ℕ) → config.shards * config.replicas ≤ place → slice_index heard.length place ≡ 0
 
+-- what the orderers agree on: the ballot of the one leader and the decided values; and the wishes that wait for their decision
+pub record Agreed : Type 0 where
+  pub ballot : ℕ
+  pub values : List Value
+  pub wishes : List Wish
+
 -- A leader that most have promised its ballot, with a window for the next slot. No vote was reported, and no proposal waits.
 pub record IsLeader (config : Shape) (ballot known : ℕ) (leader : Leader) : Type 0 where
   pub owns : leader.ballot ≡ ballot
+  pub owner : ballot % config.orderers ≡ 0
   pub answered : most config.orderers leader.answered ≡ true
   pub none_reported : leader.best ≡ no_votes
   pub none_pending : leader.pending ≡ None
@@ -90,24 +98,29 @@ LeadsAlone config ballot known (suc i) (Some leader) = ⊥
 abbrev pub IsOldVote : ℕ → ℕ → Vote → Type 0
 IsOldVote ballot known vote = (vote.ballot.0 ≡ ballot) × (vote.slot.0 < known)
 
--- An orderer runs. It promised the one ballot and voted in it for known slots alone, knows these values, and has no wish.
-pub record IsOrderer (config : Shape) (ballot index : ℕ) (lists : ListsOf) (values : List Value) (node : Node) : Type 0 where
+-- the wishes wait at orderer 0
+abbrev pub wishes_at : ℕ → List Wish → List Wish
+wishes_at zero wishes = wishes
+wishes_at (suc i) wishes = []
+
+-- An orderer runs. It promised the one ballot and voted in it for known slots alone, and knows these values.
+pub record IsOrderer (config : Shape) (agreed : Agreed) (index : ℕ) (lists : ListsOf) (node : Node) : Type 0 where
   pub orderer : OrdererMemory
   pub runs : node.mode ≡ Running orderer
-  pub knows : orderer.known ≡ values
-  pub no_wish : orderer.wishes ≡ []
+  pub knows : orderer.known ≡ agreed.values
+  pub wishes : orderer.wishes ≡ wishes_at index agreed.wishes
   pub heard : IsHeardCut config lists orderer.heard
-  pub leads : LeadsAlone config ballot (length values) index orderer.leader
-  pub promise : promised node.durable ≡ ballot
-  pub voted : AllByRecursion (IsOldVote ballot (length values)) (votes node.durable)
+  pub leads : LeadsAlone config agreed.ballot (length agreed.values) index orderer.leader
+  pub promise : promised node.durable ≡ agreed.ballot
+  pub voted : AllByRecursion (IsOldVote agreed.ballot (length agreed.values)) (votes node.durable)
 
 -- A node of a role stands: a replica holds its lists and was acknowledged so much, and what was heard is in the lists.
-abbrev pub Stands : Shape → ℕ → (ℕ → ℕ → List (List Entry)) → (ℕ → ℕ → ℕ) → ListsOf → List Value → Role → NodeState → Type 0
-Stands config ballot held acked lists values (Storage shard replica) (Storing node) =
-    IsReplica config shard.0 replica.0 (held shard.0 replica.0) (acked shard.0 replica.0) values node
-Stands config ballot held acked lists values (Gatherer index) (Gathering node) = IsGatherer config lists node
-Stands config ballot held acked lists values (Orderer index) (Ordering node) = IsOrderer config ballot index lists values node
-Stands config ballot held acked lists values _ _ = ⊥
+abbrev pub Stands : Shape → Agreed → (ℕ → ℕ → List (List Entry)) → (ℕ → ℕ → ℕ) → ListsOf → Role → NodeState → Type 0
+Stands config agreed held acked lists (Storage shard replica) (Storing node) =
+    IsReplica config shard.0 replica.0 (held shard.0 replica.0) (acked shard.0 replica.0) agreed.values node
+Stands config agreed held acked lists (Gatherer index) (Gathering node) = IsGatherer config lists node
+Stands config agreed held acked lists (Orderer index) (Ordering node) = IsOrderer config agreed index lists node
+Stands config agreed held acked lists _ _ = ⊥
 
 -- each replica holds the lists of its shard, and all of its own list is acknowledged
 abbrev pub lists_held : ListsOf → ℕ → ℕ → List (List Entry)
@@ -116,10 +129,10 @@ lists_held lists shard replica = lists shard
 abbrev pub all_acked : ListsOf → ℕ → ℕ → ℕ
 all_acked lists shard replica = length (list_at lists shard replica)
 
--- a settled moment
-pub record IsSettled (config : Shape) (ballot : ℕ) (lists : ListsOf) (values : List Value) (moment : Moment) : Type 0 where
+-- a settled moment, but for wishes that wait
+pub record IsSettled (config : Shape) (agreed : Agreed) (lists : ListsOf) (moment : Moment) : Type 0 where
   pub sizes : AreLists config lists
-  pub nodes : (role : Role) → IsRole config role → Stands config ballot (lists_held lists) (all_acked lists) lists values role (moment.nodes (node_of config role))
+  pub nodes : (role : Role) → IsRole config role → Stands config agreed (lists_held lists) (all_acked lists) lists role (moment.nodes (node_of config role))
   pub queue : moment.queue ≡ []
 
 -- what a gatherer heard from a replica whose cell stands at a place

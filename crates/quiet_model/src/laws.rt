@@ -4,35 +4,34 @@ ghost use Rattle.std.specs.Prelude.{◌≡◌, ◌*◌, ℕ, List};
 ghost use Rattle.history_frame.specs.declared.inputs.Input.TheVariants.{Tick};
 ghost use Rattle.history_frame.specs.declared.inputs.Mark.TheVariants.{Done};
 ghost use Rattle.log_base.specs.ClusterShape.{InRange, Shape};
-ghost use Rattle.record_frame.specs.declared.values.Value.{Value};
 ghost use Rattle.quiet_model.specs.Ahead.{IsAhead};
 ghost use Rattle.quiet_model.specs.Moments.{IsRound, Moment};
-ghost use Rattle.quiet_model.specs.Settled.{AreHeard, IsSettled, ListsOf};
+ghost use Rattle.quiet_model.specs.Settled.{Agreed, AreHeard, IsSettled, ListsOf};
 
 /// Where primaries are ahead of their peers by one entry at most, a tick of all storage nodes and the
 /// delivery of all letters make all replicas hold the longer lists. Then each primary knows that they do, and
 /// each gatherer has heard of it.
 pub fn copies_catch_up()
-    ensures { (config : Shape) (ballot : ℕ) (from to : ListsOf) (values : List Value) (before after : Moment)
+    ensures { (config : Shape) (agreed : Agreed) (from to : ListsOf) (before after : Moment)
         → InRange config
-        → IsAhead config ballot from to values before
+        → IsAhead config agreed from to before
         → IsRound config Tick Done 0 (config.replicas * config.shards) before after
-        → IsSettled config ballot to values after × AreHeard config to after }
+        → IsSettled config agreed to after × AreHeard config to after }
 {}
 
 /// The same round leaves a settled moment as it was, and each gatherer has heard how much all replicas
 /// hold.
 pub fn settled_stays_settled()
-    ensures { (config : Shape) (ballot : ℕ) (lists : ListsOf) (values : List Value) (before after : Moment)
+    ensures { (config : Shape) (agreed : Agreed) (lists : ListsOf) (before after : Moment)
         → InRange config
-        → IsSettled config ballot lists values before
+        → IsSettled config agreed lists before
         → IsRound config Tick Done 0 (config.replicas * config.shards) before after
-        → IsSettled config ballot lists values after × AreHeard config lists after }
+        → IsSettled config agreed lists after × AreHeard config lists after }
 {}
 
 /// A settled moment is one at which no primary is ahead.
 pub fn none_is_ahead()
-    ensures { (config : Shape) (ballot : ℕ) (lists : ListsOf) (values : List Value) (moment : Moment)
-        → IsSettled config ballot lists values moment
-        → IsAhead config ballot lists lists values moment }
+    ensures { (config : Shape) (agreed : Agreed) (lists : ListsOf) (moment : Moment)
+        → IsSettled config agreed lists moment
+        → IsAhead config agreed lists lists moment }
 {}
