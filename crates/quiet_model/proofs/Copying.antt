@@ -15,7 +15,6 @@ use Rattle.node_table.specs.Numbering.{IsRole, gatherer_of, node_of, storage_nod
 use Rattle.node_table.proofs.Roles.{storage_node-lt}
 use Rattle.record_frame.specs.declared.entries.Entry.{Entry}
 use Rattle.record_frame.specs.declared.values.Lengths.{Lengths}
-use Rattle.record_frame.specs.declared.values.Value.{Value}
 use Rattle.node_model.specs.Marks.{Mode}
 use Rattle.node_model.specs.NodeState.{NodeState, Storing, Gathering, Ordering}
 use Rattle.node_model.specs.OrdererNode.{Node}
@@ -28,7 +27,7 @@ use Rattle.quiet_model.specs.Moments.{IsRound, Moment}
 use Rattle.quiet_model.specs.Settled.{Agreed, AreHeard, IsGatherer, IsHeard, IsHeardOrNone, IsOrderer, IsReplica, IsSettled, ListsOf, Stands, all_acked, cell_by, cell_in, list_at, lists_held}
 use Rattle.quiet_model.proofs.Delivering.{all_delivered}
 use Rattle.quiet_model.proofs.Follows.{as_role, gatherer_below}
-use Rattle.quiet_model.proofs.Lists.{report_at, report_cells, report_count, same_lists}
+use Rattle.quiet_model.proofs.Lists.{report_at, report_cells, report_count, same_lengths, same_lists}
 use Rattle.quiet_model.proofs.Round.{Round, AreGoodLetters, IsAcked, Acked, Acks, Copies_first, IsCatchingUp, IsCopied, Copied, Copies, IsIn, IsPlace, IsRoundOf, IsTold, Told, Tells, Copies_new, IsUnderWay, Says, acked_by, acked_in, copy_in, goal_of}
 use Rattle.quiet_model.proofs.StorageTaken.{not_shorter}
 use Rattle.quiet_model.proofs.Ticking.{other_list, own_list}
@@ -236,9 +235,6 @@ module _ (round : Round) (range : InRange round.config) (lists : IsRoundOf round
         (heard_cell s (nodes (gatherer_of round.config s)) (u.nodes (Gatherer (s % round.config.gatherers)) (gatherer_below round.config s range)) r a b)
         (λ p below. is_told s p r (u.told s p r (record { shard = a; segment = below; replica = b })))
       where
-        same_lengths : (one other : Lengths) → one.count ≡ other.count → one.length ≡ other.length → one ≡ other
-        same_lengths one other e f = λ i. record { count = e i; length = f i }
-
         few : length (round.to s) ≤ 32
         few = omega (arith, lists.new_sizes s a, range.replicas)
 

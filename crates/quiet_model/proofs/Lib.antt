@@ -12,3 +12,6 @@ pub mod Ticking
 pub mod Turns
 pub mod Copying
 pub mod Still
+pub mod Raising
+pub mod Telling
+pub mod Gathering

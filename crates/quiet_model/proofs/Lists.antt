@@ -4,6 +4,7 @@ use Rattle.std.specs.Prelude.{slice_index, slice_set}
 use Rattle.std.proofs.lemmas.List.{length-map, length-replicate}
 use Rattle.log_model.specs.Storage.{lengths_of, list_in, report_of}
 use Rattle.record_frame.specs.declared.entries.Entry.{Entry}
+use Rattle.record_frame.specs.declared.values.Lengths.{Lengths}
 
 pub list_here : (lists : List (List Entry)) (segment : ℕ) (list : List Entry) → segment < length lists → list_in (slice_set lists segment list) segment ≡ list
 list_here [] segment list h = absurd (omega arith)
@@ -35,6 +36,9 @@ set_same (x ∷ lists) zero = refl
 set_same (x ∷ lists) (suc segment) = ap (λ (rest : List (List Entry)). x ∷ rest) (set_same lists segment)
 
 -- ---- reports
+
+pub same_lengths : (one other : Lengths) → one.count ≡ other.count → one.length ≡ other.length → one ≡ other
+same_lengths one other e f = λ i. record { count = e i; length = f i }
 
 zeros_at : (n k : ℕ) → slice_index (replicate n 0) k ≡ 0
 zeros_at zero k = refl

@@ -12,7 +12,6 @@ use Rattle.node_table.specs.declared.role.Role.TheVariants.{Storage, Gatherer, O
 use Rattle.node_table.specs.Numbering.{IsRole, gatherer_of, node_of, orderer_node, storage_node}
 use Rattle.record_frame.specs.declared.entries.Entry.{Entry}
 use Rattle.record_frame.specs.declared.values.Lengths.{Lengths}
-use Rattle.record_frame.specs.declared.values.Value.{Value}
 use Rattle.node_model.specs.Marks.{Running, Stopped}
 use Rattle.node_model.specs.NodeState.{NodeState, Storing, Gathering, Ordering}
 use Rattle.node_model.specs.Sequence.{lists_of}
@@ -22,7 +21,7 @@ use Rattle.quiet_model.specs.Moments.{Moment}
 use Rattle.quiet_model.specs.Settled.{Agreed, AreLists, IsGatherer, IsHeard, IsOrderer, ListsOf, cell_in, list_at}
 use Rattle.quiet_model.proofs.Waiting.{Waits}
 
--- the cluster, its one ballot and the known values, and the lists before and after the round
+-- the cluster, what its orderers agree on, and the lists before and after the round
 pub record Round : Type 0 where
   pub config : Shape
   pub agreed : Agreed

@@ -1,5 +1,5 @@
 -- A settled moment is one at which no primary is ahead.
-use Rattle.std.proofs.Common.{◌*◌, ℕ, List, length, refl, sym, subst}
+use Rattle.std.proofs.Common.{◌*◌, List, length, refl, sym, subst}
 use Rattle.history_frame.specs.declared.inputs.Input.TheVariants.{Tick}
 use Rattle.history_frame.specs.declared.inputs.Mark.TheVariants.{Done}
 use Rattle.log_base.specs.ClusterShape.{InRange, Shape}
@@ -7,7 +7,6 @@ use Rattle.node_table.specs.declared.role.Role.{Role}
 use Rattle.node_table.specs.declared.role.Role.TheVariants.{Storage, Gatherer, Orderer}
 use Rattle.node_table.specs.Numbering.{node_of}
 use Rattle.record_frame.specs.declared.entries.Entry.{Entry}
-use Rattle.record_frame.specs.declared.values.Value.{Value}
 use Rattle.node_model.specs.NodeState.{NodeState, Storing, Gathering, Ordering}
 use Rattle.quiet_model.specs.Ahead.{IsAhead, Same, own_ahead}
 use Rattle.quiet_model.specs.Moments.{IsRound, Moment}

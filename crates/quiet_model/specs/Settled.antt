@@ -1,6 +1,6 @@
 -- What is so of every node at a settled moment: all replicas of a shard hold the same lists, all nodes know the same values, only
 -- orderer 0 leads, no proposal waits, and no letter is under way.
-use Rattle.std.specs.Prelude.{◌≡◌, ◌≢◌, ℕ, zero, suc, ◌+◌, ◌*◌, ◌%◌, ◌<◌, ◌≤◌, List, [], length, true, Option, Some, None, slice_index, slice_index_or}
+use Rattle.std.specs.Prelude.{◌≡◌, ◌≢◌, ℕ, zero, suc, ◌+◌, ◌*◌, ◌%◌, ◌<◌, ◌≤◌, List, [], ◌++◌, length, true, Option, Some, None, slice_index, slice_index_or}
 use Rattle.std.specs.List.{AllByRecursion}
 use Rattle.aggregator.specs.Hearing.{Hearing}
 use Rattle.log_base.specs.ClusterShape.{Shape}
@@ -9,7 +9,7 @@ use Rattle.log_model.specs.Storage.{knowledge_of, list_in, report_of}
 use Rattle.message_frame.specs.declared.messages.Vote.{Vote}
 use Rattle.node_table.specs.declared.role.Role.{Role}
 use Rattle.node_table.specs.declared.role.Role.TheVariants.{Storage, Gatherer, Orderer}
-use Rattle.node_table.specs.Numbering.{IsRole, gatherer_of, node_of}
+use Rattle.node_table.specs.Numbering.{IsRole, gatherer_of, node_of, orderer_node}
 use Rattle.paxos_model.specs.Leader.{Leader, no_votes, slot_limit}
 use Rattle.paxos_model.specs.Learner.{Wish}
 use Rattle.paxos_model.specs.Majority.{most}
@@ -20,7 +20,7 @@ use Rattle.record_frame.specs.declared.values.Value.{Value}
 use Rattle.node_model.specs.GathererRow.{GathererNode}
 use Rattle.node_model.specs.Marks.{Mode, Running, Stopped}
 use Rattle.node_model.specs.NodeState.{NodeState, Storing, Gathering, Ordering}
-use Rattle.node_model.specs.OrdererNode.{Node, Orderer as OrdererMemory}
+use Rattle.node_model.specs.OrdererNode.{Mode as OrdererMode, Node, Orderer as OrdererMemory}
 use Rattle.node_model.specs.StorageNode.{Replica, StorageNode, member_of}
 use Rattle.quiet_model.specs.Moments.{Moment}
 
@@ -149,3 +149,25 @@ cell_in (Ordering node) place = None
 abbrev pub AreHeard : Shape → ListsOf → Moment → Type 0
 AreHeard config lists moment = (shard replica : ℕ) → shard < config.shards → replica < config.replicas
     → cell_in (moment.nodes (gatherer_of config shard)) (shard * config.replicas + replica) ≡ Some (report_of (lists shard))
+
+-- what an orderer heard of
+abbrev pub heard_by : OrdererMode → Option Lengths
+heard_by (Stopped flight known) = None
+heard_by (Running orderer) = Some orderer.heard
+
+abbrev pub heard_in : NodeState → Option Lengths
+heard_in (Storing node) = None
+heard_in (Gathering node) = None
+heard_in (Ordering node) = heard_by node.mode
+
+-- the lists of so many shards from one on, in order, and the lengths of all lists
+abbrev pub lists_from : ListsOf → ℕ → ℕ → List (List Entry)
+lists_from lists shard zero = []
+lists_from lists shard (suc count) = lists shard ++ lists_from lists (suc shard) count
+
+abbrev pub all_lengths : Shape → ListsOf → Lengths
+all_lengths config lists = report_of (lists_from lists 0 config.shards)
+
+-- every orderer has heard of the lengths of all lists
+abbrev pub AreTold : Shape → ListsOf → Moment → Type 0
+AreTold config lists moment = (i : ℕ) → i < config.orderers → heard_in (moment.nodes (orderer_node config i)) ≡ Some (all_lengths config lists)

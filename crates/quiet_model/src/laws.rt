@@ -4,9 +4,10 @@ ghost use Rattle.std.specs.Prelude.{◌≡◌, ◌*◌, ℕ, List};
 ghost use Rattle.history_frame.specs.declared.inputs.Input.TheVariants.{Tick};
 ghost use Rattle.history_frame.specs.declared.inputs.Mark.TheVariants.{Done};
 ghost use Rattle.log_base.specs.ClusterShape.{InRange, Shape};
+ghost use Rattle.node_table.specs.Numbering.{gatherer_node};
 ghost use Rattle.quiet_model.specs.Ahead.{IsAhead};
 ghost use Rattle.quiet_model.specs.Moments.{IsRound, Moment};
-ghost use Rattle.quiet_model.specs.Settled.{Agreed, AreHeard, IsSettled, ListsOf};
+ghost use Rattle.quiet_model.specs.Settled.{Agreed, AreHeard, AreTold, IsSettled, ListsOf};
 
 /// Where primaries are ahead of their peers by one entry at most, a tick of all storage nodes and the
 /// delivery of all letters make all replicas hold the longer lists. Then each primary knows that they do, and
@@ -34,4 +35,15 @@ pub fn none_is_ahead()
     ensures { (config : Shape) (agreed : Agreed) (lists : ListsOf) (moment : Moment)
         → IsSettled config agreed lists moment
         → IsAhead config agreed lists lists moment }
+{}
+
+/// A tick of the gatherers, once each has heard how much all replicas hold, and the delivery of all letters
+/// make each orderer hear of it.
+pub fn orderers_are_told()
+    ensures { (config : Shape) (agreed : Agreed) (lists : ListsOf) (before after : Moment)
+        → InRange config
+        → IsSettled config agreed lists before
+        → AreHeard config lists before
+        → IsRound config Tick Done (gatherer_node config 0) config.gatherers before after
+        → IsSettled config agreed lists after × AreHeard config lists after × AreTold config lists after }
 {}
