@@ -62,8 +62,7 @@ module _ (config : Shape) (from to : ListsOf) (grow : (s p : ℕ) → s < config
       rest = o.heard.rest;
     };
     leads = o.leads;
-    promise = o.promise;
-    voted = o.voted;
+    cast = o.cast;
   }
 
 module _ (round : Round) (range : InRange round.config) (lists : IsRoundOf round) where

@@ -15,3 +15,8 @@ pub mod Still
 pub mod Raising
 pub mod Telling
 pub mod Gathering
+pub mod Voting
+pub mod Leading
+pub mod Decision
+pub mod Carrying
+pub mod VoteTaken

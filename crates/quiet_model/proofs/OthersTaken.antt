@@ -161,8 +161,7 @@ module _ (round : Round) (i : ℕ) (within : i < round.config.orderers) (node : 
         wishes = o.wishes;
         heard = o.heard;
         leads = o.leads;
-        promise = o.promise;
-        voted = o.voted;
+        cast = o.cast;
       };
       follows = tt;
       does = tt;

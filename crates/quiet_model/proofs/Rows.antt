@@ -64,7 +64,7 @@ window_of_one acked len e =
     ap (offsets_from acked) one
 
 -- the entry at the end
-pub last_entry : (list : List Entry) (entry : Entry) → slice_get (list ++ entry ∷ []) (length list) ≡ Some entry
+pub last_entry : {A : Type 0} (list : List A) (entry : A) → slice_get (list ++ entry ∷ []) (length list) ≡ Some entry
 last_entry [] entry = refl
 last_entry (x ∷ list) entry = last_entry list entry
 

@@ -252,8 +252,7 @@ module _ (config : Shape) (range : InRange config) (agreed : Agreed) (lists : Li
       wishes = o.wishes;
       heard = raised_heard config range lists sizes shard.0 a said.length says o.orderer.heard o.heard;
       leads = o.leads;
-      promise = o.promise;
-      voted = o.voted;
+      cast = o.cast;
     };
     stays = λ t c all p d.
         raised_stays config range lists sizes shard.0 a said.length says o.orderer.heard o.heard t p c d

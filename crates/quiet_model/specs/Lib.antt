@@ -1,3 +1,4 @@
 pub mod Moments
 pub mod Settled
 pub mod Ahead
+pub mod Deciding

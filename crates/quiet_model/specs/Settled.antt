@@ -13,7 +13,7 @@ use Rattle.node_table.specs.Numbering.{IsRole, gatherer_of, node_of, orderer_nod
 use Rattle.paxos_model.specs.Leader.{Leader, no_votes, slot_limit}
 use Rattle.paxos_model.specs.Learner.{Wish}
 use Rattle.paxos_model.specs.Majority.{most}
-use Rattle.paxos_model.specs.Votes.{promised, votes, window_size}
+use Rattle.paxos_model.specs.Votes.{Payload, promised, votes, window_size}
 use Rattle.record_frame.specs.declared.entries.Entry.{Entry}
 use Rattle.record_frame.specs.declared.values.Lengths.{Lengths}
 use Rattle.record_frame.specs.declared.values.Value.{Value}
@@ -98,6 +98,11 @@ LeadsAlone config ballot known (suc i) (Some leader) = ⊥
 abbrev pub IsOldVote : ℕ → ℕ → Vote → Type 0
 IsOldVote ballot known vote = (vote.ballot.0 ≡ ballot) × (vote.slot.0 < known)
 
+-- an acceptor that promised the one ballot, and voted in it for slots below one alone
+pub record IsAcceptor (ballot slots : ℕ) (list : List Payload) : Type 0 where
+  pub promise : promised list ≡ ballot
+  pub voted : AllByRecursion (IsOldVote ballot slots) (votes list)
+
 -- the wishes wait at orderer 0
 abbrev pub wishes_at : ℕ → List Wish → List Wish
 wishes_at zero wishes = wishes
@@ -111,8 +116,7 @@ pub record IsOrderer (config : Shape) (agreed : Agreed) (index : ℕ) (lists : L
   pub wishes : orderer.wishes ≡ wishes_at index agreed.wishes
   pub heard : IsHeardCut config lists orderer.heard
   pub leads : LeadsAlone config agreed.ballot (length agreed.values) index orderer.leader
-  pub promise : promised node.durable ≡ agreed.ballot
-  pub voted : AllByRecursion (IsOldVote agreed.ballot (length agreed.values)) (votes node.durable)
+  pub cast : IsAcceptor agreed.ballot (length agreed.values) node.durable
 
 -- A node of a role stands: a replica holds its lists and was acknowledged so much, and what was heard is in the lists.
 abbrev pub Stands : Shape → Agreed → (ℕ → ℕ → List (List Entry)) → (ℕ → ℕ → ℕ) → ListsOf → Role → NodeState → Type 0

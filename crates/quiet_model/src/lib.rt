@@ -10,4 +10,4 @@ mod laws;
 mod steps;
 
 pub use laws::{copies_catch_up, none_is_ahead, orderers_are_told, settled_stays_settled};
-pub use steps::{known_copy_is_acknowledged, next_copy_is_stored};
+pub use steps::{known_copy_is_acknowledged, leader_rests, next_copy_is_stored, nothing_is_reported};
