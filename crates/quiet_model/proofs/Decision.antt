@@ -3,7 +3,7 @@ use Rattle.std.proofs.Common.{◌≡◌, ◌≢◌, ◌⊎◌, ◌+◌, ◌%◌,
 use Rattle.std.specs.Prelude.{slice_index}
 use Rattle.std.specs.List.{AllByRecursion}
 use Rattle.history_frame.specs.declared.events.Sent.{Sent}
-use Rattle.log_base.specs.ClusterShape.{Shape}
+use Rattle.log_base.specs.ClusterShape.{InRange, Shape}
 use Rattle.log_model.specs.Storage.{Knowledge, knowledge_of}
 use Rattle.message_frame.specs.declared.messages.Message.{Message}
 use Rattle.message_frame.specs.declared.messages.Message.TheVariants.{Copy, CopyAck, Report, Least, Prepare, Promised, Lower, Accept, Accepted, Decide, Want}
@@ -20,6 +20,7 @@ use Rattle.node_model.specs.Marks.{Running, Stopped}
 use Rattle.node_model.specs.NodeState.{NodeState, Storing, Gathering, Ordering}
 use Rattle.node_model.specs.OrdererNode.{Mode as OrdererMode, Node, Orderer as OrdererMemory}
 use Rattle.node_model.specs.StorageNode.{Replica, StorageMode, StorageNode, member_of}
+use Rattle.quiet_model.specs.Deciding.{IsNextDecision}
 use Rattle.quiet_model.specs.Moments.{Moment}
 use Rattle.quiet_model.specs.Settled.{Agreed, IsAcceptor, IsGatherer, IsHeardCut, ListsOf, all_lengths, list_at}
 use Rattle.quiet_model.proofs.Waiting.{Waits}
@@ -237,7 +238,7 @@ pub record UnderVote (d : Decision) (moment : Moment) : Type 0 where
 
 -- what holds while a decision is under way
 pub record IsDecision (d : Decision) : Type 0 where
+  pub range : InRange d.config
   pub owner : d.agreed.ballot % d.config.orderers ≡ 0
   pub some : 1 ≤ d.config.orderers
-  pub orderers : d.config.orderers ≤ 7
-  pub few : slot_of d < slot_limit
+  pub next : IsNextDecision d.config d.agreed d.lists d.value

@@ -142,3 +142,7 @@ tally_none test (suc n) h =
 pub none_are_few : (n : ℕ) → most n no_marks ≡ false
 unfolding is_majority no_marks
 none_are_few n = lt-leb (n / 2 + 1) (tally (is_marked (replicate 7 false)) n) (let none = tally_none (is_marked (replicate 7 false)) n (λ i. unmarked 7 i) in omega arith)
+
+pub marks_size : length no_marks ≡ 7
+unfolding no_marks
+marks_size = refl

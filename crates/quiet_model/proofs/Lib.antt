@@ -20,3 +20,6 @@ pub mod Leading
 pub mod Decision
 pub mod Carrying
 pub mod VoteTaken
+pub mod LeaderTaken
+pub mod Polling
+pub mod Deciding

@@ -17,7 +17,7 @@ use Rattle.quiet_model.specs.Ahead.{own_ahead}
 use Rattle.quiet_model.specs.Moments.{Moment, TakeInTurn, Takes}
 use Rattle.quiet_model.specs.Settled.{Stands, all_acked, list_at}
 use Rattle.quiet_model.proofs.Follows.{as_role}
-use Rattle.quiet_model.proofs.Moving.{Moves, moved, same_cell}
+use Rattle.quiet_model.proofs.Moving.{Moves, moved, replica_of, same_cell}
 use Rattle.quiet_model.proofs.Round.{Round, AreGoodLetters, IsCopyTo, IsGoodLetter, IsPlace, IsReportTo, IsRoundOf, goal_of}
 use Rattle.quiet_model.proofs.Ticking.{Ticks, ticks}
 use Rattle.quiet_model.proofs.Waiting.{Waits, waits_left, waits_right}
@@ -99,29 +99,15 @@ module _ (round : Round) (range : InRange round.config) (lists : IsRoundOf round
         newly : (P : Sent → Type 0) → Waits P t.0.outputs → Waits P after.queue
         newly P w = subst (Waits P) (sym moves.posted) (waits_right P before.queue t.0.outputs w)
 
-  -- a number below that of all replicas is that of one
-  shard_below : (n : ℕ) → n < round.config.replicas * round.config.shards → n / round.config.replicas < round.config.shards
-  shard_below n h =
-      let some = range.some_replica in
-      ⊎_elim
-      (λ below. below)
-      (λ past. absurd (let more : round.config.replicas * round.config.shards ≤ round.config.replicas * (n / round.config.replicas) = mul-le-mul_left round.config.replicas past in omega arith))
-      (cases_lt (n / round.config.replicas) round.config.shards)
-
-  replica_below : (n : ℕ) → n % round.config.replicas < round.config.replicas
-  replica_below n = let some = range.some_replica in omega arith
-
-  number_is : (n : ℕ) → storage_node round.config (n / round.config.replicas) (n % round.config.replicas) ≡ n
-  number_is n = let some = range.some_replica in omega arith
-
   ticked_by : (before after : Moment) (n : ℕ) → n < round.config.replicas * round.config.shards → IsTicking round n before
       → (reply : Reply) → Takes round.config before n Tick Done reply after → IsTicking round (suc n) after
   ticked_by before after n h old reply takes =
-      subst (λ (m : ℕ). IsTicking round (suc m) after) (number_is n)
-      (ticked before after (n / round.config.replicas) (n % round.config.replicas) (shard_below n h) (replica_below n)
-      (subst (λ (m : ℕ). IsTicking round m before) (sym (number_is n)) old)
+      let is = replica_of round.config range n h in
+      subst (λ (m : ℕ). IsTicking round (suc m) after) is.2
+      (ticked before after (n / round.config.replicas) (n % round.config.replicas) is.0 is.1
+      (subst (λ (m : ℕ). IsTicking round m before) (sym is.2) old)
       reply
-      (subst (λ (m : ℕ). Takes round.config before m Tick Done reply after) (sym (number_is n)) takes))
+      (subst (λ (m : ℕ). Takes round.config before m Tick Done reply after) (sym is.2) takes))
 
   pub all_ticked : (count first : ℕ) (before after : Moment) → first + count ≡ round.config.replicas * round.config.shards → IsTicking round first before
       → TakeInTurn round.config Tick Done first count before after → IsTicking round (round.config.replicas * round.config.shards) after

@@ -56,14 +56,14 @@ pub record VoteTaken (d : Decision) (m : Message) (role : Role) (old : NodeState
   pub rule : node_outcome d.config (node_of d.config role) old (Deliver place index (Some m)) Done ≡ Some made
   pub handled : IsVoted d m made.outputs role old made.state
 
-same_index : (i j : ℕ) → Orderer i ≡ Orderer j → i ≡ j
+pub same_index : (i j : ℕ) → Orderer i ≡ Orderer j → i ≡ j
 same_index i j e = cc
 
 stored_is : (config : Shape) (i : ℕ) (list : List Payload) (put : Option Payload) → stored_with (orderer_role config i) list put ≡ with_put list put
 stored_is config i list None = refl
 stored_is config i list (Some payload) = refl
 
-longer : (d : Decision) → length (values_of d) ≡ suc (slot_of d)
+pub longer : (d : Decision) → length (values_of d) ≡ suc (slot_of d)
 longer d = omega (arith, length-append d.agreed.values (d.value ∷ []))
 
 -- ---- at an orderer
@@ -172,7 +172,7 @@ module _ (d : Decision) (can : IsDecision d) (i : ℕ) (within : i < d.config.or
 -- ---- at a learner
 
 -- values that are learned once
-learn_once : (d : Decision) (known : List Value) → (known ≡ d.agreed.values) ⊎ (known ≡ values_of d) → learn known (slot_of d) d.value ≡ values_of d
+pub learn_once : (d : Decision) (known : List Value) → (known ≡ d.agreed.values) ⊎ (known ≡ values_of d) → learn known (slot_of d) d.value ≡ values_of d
 unfolding learn
 learn_once d known (inl e) =
     cond-true (slot_of d == length known) (known ++ d.value ∷ []) known (eq-eqb (slot_of d) (length known) (sym (ap length e)))

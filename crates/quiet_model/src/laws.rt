@@ -4,8 +4,10 @@ ghost use Rattle.std.specs.Prelude.{◌≡◌, ◌*◌, ℕ, List};
 ghost use Rattle.history_frame.specs.declared.inputs.Input.TheVariants.{Tick};
 ghost use Rattle.history_frame.specs.declared.inputs.Mark.TheVariants.{Done};
 ghost use Rattle.log_base.specs.ClusterShape.{InRange, Shape};
-ghost use Rattle.node_table.specs.Numbering.{gatherer_node};
+ghost use Rattle.record_frame.specs.declared.values.Value.{Value};
+ghost use Rattle.node_table.specs.Numbering.{gatherer_node, orderer_node};
 ghost use Rattle.quiet_model.specs.Ahead.{IsAhead};
+ghost use Rattle.quiet_model.specs.Deciding.{IsNextDecision, decided_on};
 ghost use Rattle.quiet_model.specs.Moments.{IsRound, Moment};
 ghost use Rattle.quiet_model.specs.Settled.{Agreed, AreHeard, AreTold, IsSettled, ListsOf};
 
@@ -46,4 +48,17 @@ pub fn orderers_are_told()
         → AreHeard config lists before
         → IsRound config Tick Done (gatherer_node config 0) config.gatherers before after
         → IsSettled config agreed lists after × AreHeard config lists after × AreTold config lists after }
+{}
+
+/// A tick of the orderers, once each has heard the lengths of all lists, and the delivery of all letters
+/// decide the leader's next wish, and all replicas and orderers know it. The wish is the first of those that
+/// wait, else the cut of all lengths; it is to be the last for now.
+pub fn value_is_decided()
+    ensures { (config : Shape) (agreed : Agreed) (lists : ListsOf) (value : Value) (before after : Moment)
+        → InRange config
+        → IsSettled config agreed lists before
+        → AreTold config lists before
+        → IsNextDecision config agreed lists value
+        → IsRound config Tick Done (orderer_node config 0) config.orderers before after
+        → IsSettled config (decided_on agreed value) lists after }
 {}

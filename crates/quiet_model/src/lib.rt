@@ -9,5 +9,5 @@
 mod laws;
 mod steps;
 
-pub use laws::{copies_catch_up, none_is_ahead, orderers_are_told, settled_stays_settled};
+pub use laws::{copies_catch_up, none_is_ahead, orderers_are_told, settled_stays_settled, value_is_decided};
 pub use steps::{known_copy_is_acknowledged, leader_rests, next_copy_is_stored, nothing_is_reported};
