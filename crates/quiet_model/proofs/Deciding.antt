@@ -250,7 +250,7 @@ module _ (d : Decision) (can : IsDecision d) where
   delivered : (before after : Moment) → UnderVote d before → IsDelivery d.config before after → UnderVote d after
   delivered before after old v =
       let now : UnderVote d (record { nodes = before.nodes; queue = v.sent ∷ v.rest }) =
-          subst (λ (queue : List Sent). UnderVote d (record { nodes = before.nodes; queue = queue })) v.first old in
+      subst (λ (queue : List Sent). UnderVote d (record { nodes = before.nodes; queue = queue })) v.first old in
       delivered_as before.nodes v.rest v.sent.to after v.place v.index v.reply v.sent.message now v.taken now.letters.0
 
   all_delivered : (count : ℕ) (before after : Moment) → UnderVote d before → DeliveredIn d.config count before after → UnderVote d after
@@ -316,7 +316,7 @@ module _ (d : Decision) (can : IsDecision d) where
     leader_ends : (node : Node) → nodes (orderer_node d.config 0) ≡ Ordering node → IsVoter d 0 node → IsOrderer d.config (decided_on d.agreed d.value) 0 d.lists node
     leader_ends node is h =
         let same : u.orderer ≡ h.orderer =
-            same_Some u.orderer h.orderer (sym u.leads ∙ ap (λ (state : NodeState). memory_in state) is ∙ ap (λ (mode : OrdererMode). memory_by mode) h.runs) in
+        same_Some u.orderer h.orderer (sym u.leads ∙ ap (λ (state : NodeState). memory_in state) is ∙ ap (λ (mode : OrdererMode). memory_by mode) h.runs) in
         let e : Ends h.orderer = subst Ends same end in
         record {
           orderer = h.orderer;

@@ -23,3 +23,4 @@ pub mod VoteTaken
 pub mod LeaderTaken
 pub mod Polling
 pub mod Deciding
+pub mod Settling

@@ -36,9 +36,9 @@ pub replica_of : (config : Shape) → InRange config → (n : ℕ) → n < confi
 replica_of config range n h =
     let some = range.some_replica in (
       ⊎_elim
-      (λ below. below)
-      (λ past. absurd (let more : config.replicas * config.shards ≤ config.replicas * (n / config.replicas) = mul-le-mul_left config.replicas past in omega arith))
-      (cases_lt (n / config.replicas) config.shards),
+          (λ below. below)
+          (λ past. absurd (let more : config.replicas * config.shards ≤ config.replicas * (n / config.replicas) = mul-le-mul_left config.replicas past in omega arith))
+          (cases_lt (n / config.replicas) config.shards),
       omega arith,
       omega arith,
     )

@@ -227,16 +227,18 @@ module _ (d : Decision) (can : IsDecision d) where
         cond_both (o.orderer.ticks % d.config.orderers == suc i) []
         (letter (orderer_node d.config (o.orderer.ticks % d.config.orderers)) (want_message (length o.orderer.known) (orderer_node d.config (suc i))) ∷ []) (AreVotingLetters d)
         (λ e. tt)
-        (λ e. ((
-          record { index = o.orderer.ticks % d.config.orderers; below = (let some = can.some in omega arith); at = refl },
-          record { role = Orderer (suc i); is = b; learns = tt; at = refl },
-          ap length o.knows,
-        ), tt));
+        (λ e. (
+          (
+            record { index = o.orderer.ticks % d.config.orderers; below = (let some = can.some in omega arith); at = refl },
+            record { role = Orderer (suc i); is = b; learns = tt; at = refl },
+            ap length o.knows,
+          ),
+          tt,
+        ));
   }
     where
       f : IsFollower d o.orderer
       f = follower i node o
-
   follower_at i b (Storing node) o = absurd o
   follower_at i b (Gathering node) o = absurd o
 

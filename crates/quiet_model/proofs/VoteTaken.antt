@@ -85,10 +85,10 @@ module _ (d : Decision) (can : IsDecision d) (i : ℕ) (within : i < d.config.or
       let a : Accepts d.config i d.agreed.ballot (slot_of d) d.value node.durable h.orderer = accepts d.config d.agreed.ballot can.owner i node.durable h.orderer (slot_of d) d.value h.cast in
       let change : Change = record { put = a.put; after = h.orderer; outputs = letter (orderer_node d.config 0) (accepted_message d.agreed.ballot (slot_of d) i) ∷ []; reply = Nothing } in
       let row : on_accept d.config i node.durable h.orderer ballot.0 slot.0 value ≡ change =
-          ap (λ (n : ℕ). on_accept d.config i node.durable h.orderer n slot.0 value) e
-          ∙ ap (λ (n : ℕ). on_accept d.config i node.durable h.orderer d.agreed.ballot n value) f
-          ∙ ap (λ (v : Value). on_accept d.config i node.durable h.orderer d.agreed.ballot (slot_of d) v) g
-          ∙ a.row in
+      ap (λ (n : ℕ). on_accept d.config i node.durable h.orderer n slot.0 value) e
+      ∙ ap (λ (n : ℕ). on_accept d.config i node.durable h.orderer d.agreed.ballot n value) f
+      ∙ ap (λ (v : Value). on_accept d.config i node.durable h.orderer d.agreed.ballot (slot_of d) v) g
+      ∙ a.row in
       record {
         made = record { state = Ordering (record { durable = stored_with (orderer_role d.config i) node.durable a.put; mode = Running h.orderer }); outputs = change.outputs; reply = Nothing };
         rule = orderer_takes d.config i within node h.orderer change h.runs (Deliver place index (Some (Accept ballot slot value))) refl (ap Some row);
@@ -111,9 +111,9 @@ module _ (d : Decision) (can : IsDecision d) (i : ℕ) (within : i < d.config.or
   prepare_taken ballot slot e f place index =
       let change : Change = record { put = None; after = h.orderer; outputs = letter (orderer_node d.config 0) (promised_message d.agreed.ballot (suc (slot_of d)) i []) ∷ []; reply = Nothing } in
       let row : on_prepare d.config i node.durable h.orderer ballot.0 slot.0 ≡ change =
-          ap (λ (n : ℕ). on_prepare d.config i node.durable h.orderer n slot.0) e
-          ∙ ap (λ (n : ℕ). on_prepare d.config i node.durable h.orderer d.agreed.ballot n) f
-          ∙ promises d.config d.agreed.ballot can.owner i node.durable h.orderer (suc (slot_of d)) (suc (slot_of d)) h.cast in
+      ap (λ (n : ℕ). on_prepare d.config i node.durable h.orderer n slot.0) e
+      ∙ ap (λ (n : ℕ). on_prepare d.config i node.durable h.orderer d.agreed.ballot n) f
+      ∙ promises d.config d.agreed.ballot can.owner i node.durable h.orderer (suc (slot_of d)) (suc (slot_of d)) h.cast in
       record {
         made = record { state = Ordering (record { durable = node.durable; mode = Running h.orderer }); outputs = change.outputs; reply = Nothing };
         rule = orderer_takes d.config i within node h.orderer change h.runs (Deliver place index (Some (Prepare ballot slot))) refl (ap Some row);

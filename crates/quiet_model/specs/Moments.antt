@@ -1,13 +1,14 @@
 -- A moment of a run is what all nodes are, and the letters under way. One moment comes from another where a node takes an
 -- input, where nodes take one in turn, and where letters are delivered until none is left.
-use Rattle.std.specs.Prelude.{◌≡◌, ◌≢◌, ℕ, zero, suc, List, [], ◌∷◌, ◌++◌, Some}
+use Rattle.std.specs.Prelude.{◌≡◌, ◌≢◌, ℕ, zero, suc, ◌*◌, List, [], ◌∷◌, ◌++◌, Some}
 use Rattle.reply_frame.specs.declared.replies.Reply.{Reply}
 use Rattle.history_frame.specs.declared.events.Sent.{Sent}
 use Rattle.history_frame.specs.declared.inputs.Input.{Input}
-use Rattle.history_frame.specs.declared.inputs.Input.TheVariants.{Deliver}
+use Rattle.history_frame.specs.declared.inputs.Input.TheVariants.{Deliver, Tick}
 use Rattle.history_frame.specs.declared.inputs.Mark.{Mark}
 use Rattle.history_frame.specs.declared.inputs.Mark.TheVariants.{Done}
 use Rattle.log_base.specs.ClusterShape.{Shape}
+use Rattle.node_table.specs.Numbering.{gatherer_node, orderer_node}
 use Rattle.node_model.specs.NodeState.{NodeOutcome, NodeState, node_outcome}
 
 -- the nodes by their numbers, and the letters, the oldest first
@@ -56,3 +57,13 @@ pub record IsRound (config : Shape) (input : Input) (mark : Mark) (first count :
   pub middle : Moment
   pub turns : TakeInTurn config input mark first count before middle
   pub deliveries : AreDelivered config middle after
+
+-- Settling: the storage nodes tick, then the gatherers, then the orderers, then the storage nodes again, each in a round.
+pub record IsSettling (config : Shape) (before after : Moment) : Type 0 where
+  pub stored : Moment
+  pub gathered : Moment
+  pub decided : Moment
+  pub copies : IsRound config Tick Done 0 (config.replicas * config.shards) before stored
+  pub lengths : IsRound config Tick Done (gatherer_node config 0) config.gatherers stored gathered
+  pub decision : IsRound config Tick Done (orderer_node config 0) config.orderers gathered decided
+  pub reports : IsRound config Tick Done 0 (config.replicas * config.shards) decided after

@@ -8,7 +8,7 @@ ghost use Rattle.record_frame.specs.declared.values.Value.{Value};
 ghost use Rattle.node_table.specs.Numbering.{gatherer_node, orderer_node};
 ghost use Rattle.quiet_model.specs.Ahead.{IsAhead};
 ghost use Rattle.quiet_model.specs.Deciding.{IsNextDecision, decided_on};
-ghost use Rattle.quiet_model.specs.Moments.{IsRound, Moment};
+ghost use Rattle.quiet_model.specs.Moments.{IsRound, IsSettling, Moment};
 ghost use Rattle.quiet_model.specs.Settled.{Agreed, AreHeard, AreTold, IsSettled, ListsOf};
 
 /// Where primaries are ahead of their peers by one entry at most, a tick of all storage nodes and the
@@ -61,4 +61,15 @@ pub fn value_is_decided()
         → IsNextDecision config agreed lists value
         → IsRound config Tick Done (orderer_node config 0) config.orderers before after
         → IsSettled config (decided_on agreed value) lists after }
+{}
+
+/// Settling makes a moment at which primaries may be ahead, and a value is wished, a settled one: all
+/// replicas hold the longer lists, and all nodes know the value.
+pub fn settling_settles()
+    ensures { (config : Shape) (agreed : Agreed) (from to : ListsOf) (value : Value) (before after : Moment)
+        → InRange config
+        → IsAhead config agreed from to before
+        → IsNextDecision config agreed to value
+        → IsSettling config before after
+        → IsSettled config (decided_on agreed value) to after × AreHeard config to after }
 {}

@@ -2,12 +2,17 @@
 //! of it.
 //!
 //! `specs/Moments.antt` says what a moment of a run is and how one comes from another, `specs/Settled.antt`
-//! what is so at a settled one, `specs/Ahead.antt` what is so where primaries are ahead of their peers. The
-//! functions do nothing: their contracts are the laws.
+//! what is so at a settled one, `specs/Ahead.antt` what is so where primaries are ahead of their peers, and
+//! `specs/Deciding.antt` which value is decided next. The functions do nothing: their contracts are the laws.
 #![tactic(auto)]
 
 mod laws;
 mod steps;
 
-pub use laws::{copies_catch_up, none_is_ahead, orderers_are_told, settled_stays_settled, value_is_decided};
-pub use steps::{known_copy_is_acknowledged, leader_rests, next_copy_is_stored, nothing_is_reported};
+pub use laws::{
+    copies_catch_up, none_is_ahead, orderers_are_told, settled_stays_settled, settling_settles,
+    value_is_decided,
+};
+pub use steps::{
+    known_copy_is_acknowledged, leader_rests, next_copy_is_stored, nothing_is_reported,
+};
