@@ -1,5 +1,5 @@
 -- A stage of the decision stays through an event that leaves the leader's memory.
-use Rattle.std.proofs.Common.{◌≡◌, ◌⊎◌, ◌<◌, ℕ, suc, Bool, List, [], ◌∷◌, ◌++◌, Some, None, inl, inr, ⊎_elim, sym, subst, ◌∙◌}
+use Rattle.std.proofs.Common.{◌≡◌, ◌⊎◌, ◌<◌, ℕ, suc, Bool, List, ⊎_elim}
 use Rattle.history_frame.specs.declared.events.Sent.{Sent}
 use Rattle.node_table.specs.declared.role.Role.{Role}
 use Rattle.node_table.specs.Numbering.{IsRole, node_of}

@@ -1,6 +1,6 @@
 -- The orderers' round: the letters of a decision are delivered, and then every node knows the value.
-use Rattle.std.proofs.Common.{◌≡◌, ◌≢◌, ◌⊎◌, ◌+◌, ◌%◌, ◌<◌, ◌≤◌, ℕ, zero, suc, Bool, true, false, List, [], ◌∷◌, ◌++◌, length, Option, Some, None, refl, sym, ap, subst, inl, inr, ⊎_elim, arith, ◌∙◌}
-use Rattle.std.proofs.lemmas.Option.{none-some, same_Some}
+use Rattle.std.proofs.Common.{◌≡◌, ◌⊎◌, ◌%◌, ◌<◌, ◌≤◌, ℕ, zero, suc, Bool, true, false, List, [], ◌∷◌, length, Some, refl, sym, ap, subst, inl, inr, ⊎_elim, arith, ◌∙◌}
+use Rattle.std.proofs.lemmas.Option.{same_Some}
 use Rattle.reply_frame.specs.declared.replies.Reply.{Reply}
 use Rattle.history_frame.specs.declared.events.Sent.{Sent}
 use Rattle.history_frame.specs.declared.inputs.Input.TheVariants.{Deliver, Tick}
@@ -18,7 +18,6 @@ use Rattle.node_table.specs.Numbering.{IsRole, node_of, orderer_node}
 use Rattle.paxos_model.specs.Leader.{Leader}
 use Rattle.paxos_model.specs.Majority.{is_marked, most}
 use Rattle.record_frame.specs.declared.values.Value.{Value}
-use Rattle.node_model.specs.Marks.{Running, Stopped}
 use Rattle.node_model.specs.NodeState.{NodeOutcome, NodeState, Storing, Gathering, Ordering, node_outcome}
 use Rattle.node_model.specs.OrdererNode.{Mode as OrdererMode, Node, Orderer as OrdererMemory}
 use Rattle.node_model.specs.StorageNode.{StorageMode, StorageNode}
@@ -29,10 +28,11 @@ use Rattle.quiet_model.specs.Settled.{Agreed, AreLists, AreTold, IsAcceptor, IsL
 use Rattle.quiet_model.proofs.Carrying.{Carries, stage_on}
 use Rattle.quiet_model.proofs.Decision.{Decision, Counts, Marked, Accepts_it, Is_asked, Learns, Knows, Is_told, Renews, Promised_it, Promises_it, Is_prepared, IsReady, In_window, Renewing, Stage, Proposed, Decided, AcceptTo, AcceptedFrom, AreVotingLetters, DecideTo, IsDecision, IsDone, IsLearner, IsLearning, IsVoter, IsVoting, IsVotingLetter, IsVotingMessage, PrepareTo, PromisedFrom, ToLearner, ToOrderer, UnderVote, count_in, known_by, known_of, memory_by, memory_in, slot_of, values_of}
 use Rattle.quiet_model.proofs.Gathering.{IsSettledNode}
-use Rattle.quiet_model.proofs.LeaderTaken.{LeaderTaken, accepted_taken, promised_taken}
+use Rattle.quiet_model.proofs.LeaderTaken.{LeaderTaken, accepted_taken}
 use Rattle.quiet_model.proofs.Leading.{all_are_most}
 use Rattle.quiet_model.proofs.Moving.{Moves, moved, same_role}
 use Rattle.quiet_model.proofs.Polling.{all_polled, leading}
+use Rattle.quiet_model.proofs.PromiseTaken.{promised_taken}
 use Rattle.quiet_model.proofs.VoteTaken.{IsVoted, VoteTaken, accept_taken, longer, orderer_learns, prepare_taken, replica_learns, want_taken}
 use Rattle.quiet_model.proofs.Waiting.{Waits, waits_left, waits_right}
 

@@ -4,17 +4,15 @@ use Rattle.std.specs.Prelude.{slice_index}
 use Rattle.std.specs.List.{AllByRecursion}
 use Rattle.history_frame.specs.declared.events.Sent.{Sent}
 use Rattle.log_base.specs.ClusterShape.{InRange, Shape}
-use Rattle.log_model.specs.Storage.{Knowledge, knowledge_of}
+use Rattle.log_model.specs.Storage.{knowledge_of}
 use Rattle.message_frame.specs.declared.messages.Message.{Message}
-use Rattle.message_frame.specs.declared.messages.Message.TheVariants.{Copy, CopyAck, Report, Least, Prepare, Promised, Lower, Accept, Accepted, Decide, Want}
-use Rattle.message_frame.specs.declared.messages.Vote.{Vote}
+use Rattle.message_frame.specs.declared.messages.Message.TheVariants.{Prepare, Promised, Accept, Accepted, Decide, Want}
 use Rattle.node_table.specs.declared.role.Role.{Role}
 use Rattle.node_table.specs.declared.role.Role.TheVariants.{Storage, Gatherer, Orderer}
 use Rattle.node_table.specs.Numbering.{IsRole, node_of, orderer_node}
 use Rattle.paxos_model.specs.Leader.{Leader, Pending, no_votes, slot_limit}
 use Rattle.paxos_model.specs.Majority.{is_marked, most}
 use Rattle.paxos_model.specs.Votes.{window_size}
-use Rattle.record_frame.specs.declared.entries.Entry.{Entry}
 use Rattle.record_frame.specs.declared.values.Value.{Value}
 use Rattle.node_model.specs.Marks.{Running, Stopped}
 use Rattle.node_model.specs.NodeState.{NodeState, Storing, Gathering, Ordering}

@@ -1,4 +1,4 @@
--- Letters of a decision that change the leader's memory: acceptances and promises.
+-- An acceptance that is delivered to the leader of a decision: it counts, and the most decide.
 use Rattle.std.proofs.Common.{◌≡◌, ◌≢◌, ◌⊎◌, ◌+◌, ◌-◌, ◌*◌, ◌/◌, ◌%◌, ◌<◌, ◌≤◌, ℕ, zero, suc, Bool, true, false, cond, ◌==◌, ◌&&◌, List, [], ◌∷◌, ◌++◌, length, get_or, set, Option, Some, None, refl, sym, ap, subst, inl, inr, ⊎_elim, arith, append-nil, eq-eqb, ◌∙◌}
 use Rattle.std.specs.Prelude.{slice_index_or, slice_set}
 use Rattle.std.specs.List.{AllByRecursion}
@@ -38,80 +38,10 @@ use Rattle.quiet_model.proofs.Decision.{Decision, Counts, Marked, Accepts_it, Is
 use Rattle.quiet_model.proofs.Leading.{goes_on_as, marks_size, merges_none, renews, rests}
 use Rattle.quiet_model.proofs.Follows.{as_role}
 use Rattle.quiet_model.proofs.Moving.{replica_of}
+use Rattle.quiet_model.proofs.Many.{each_learner, each_orderer, now_marked, still_marked, to_each, to_each_learner}
 use Rattle.quiet_model.proofs.Outcomes.{orderer_takes}
 use Rattle.quiet_model.proofs.VoteTaken.{learn_once, longer}
 use Rattle.quiet_model.proofs.Waiting.{Waits, waits_left, waits_right}
-
--- ---- marks
-
-module _ (marks : List Bool) (j : ℕ) (h : j < length marks) where
-  now_marked : is_marked (marked marks j) j ≡ true
-  now_marked = get_or-set_same marks j true false h
-
-  still_marked : (i : ℕ) → is_marked marks i ≡ true → is_marked (marked marks j) i ≡ true
-  still_marked i e =
-      ⊎_elim
-      (λ same. subst (λ (n : ℕ). is_marked (marked marks j) n ≡ true) (sym same) now_marked)
-      (λ differ. get_or-set_other marks j i true false differ ∙ e)
-      (cases_eq i j)
-
--- ---- letters to many
-
-module _ (d : Decision) (can : IsDecision d) where
-  node_waits : (P : Sent → Type 0) (message : Message) (node first count : ℕ) → P (letter node message) → first ≤ node → node < first + count → Waits P (to_nodes first count message)
-  node_waits P message node first zero h low high = absurd (omega arith)
-  node_waits P message node first (suc count) h low high =
-      ⊎_elim
-      (λ e. inl (subst (λ (n : ℕ). P (letter n message)) (sym e) h))
-      (λ differ. inr (node_waits P message node (suc first) count h (omega arith) (omega arith)))
-      (cases_eq first node)
-
-  pub to_each : (P : Sent → Type 0) (message : Message) (j : ℕ) → j < d.config.orderers → P (letter (orderer_node d.config j) message) → Waits P (to_orderers d.config message)
-  unfolding to_orderers
-  to_each P message j below h = node_waits P message (orderer_node d.config j) (before_orderers d.config) d.config.orderers h (omega arith) (omega arith)
-
-  pub each_orderer : (P : Sent → Type 0) (message : Message) → ((node : ℕ) → ToOrderer d node → P (letter node message))
-      → AllByRecursion P (to_orderers d.config message)
-  unfolding to_orderers
-  each_orderer P message h =
-      to_nodes_all P message (before_orderers d.config) d.config.orderers
-      (λ node low high. h node (record { index = node - before_orderers d.config; below = omega arith; at = omega arith }))
-
-  -- a replica by its number
-  storage_learner : (node : ℕ) → node < storage_nodes d.config → ToLearner d node
-  storage_learner node h =
-      let is = replica_of d.config can.range node h in
-      record { role = as_role (node / d.config.replicas) (node % d.config.replicas); is = (is.0, is.1); learns = tt; at = sym is.2 }
-
-  other_learner : (node : ℕ) → orderer_node d.config 1 ≤ node → node < orderer_node d.config 1 + (d.config.orderers - 1) → ToLearner d node
-  other_learner node low high = record {
-    role = Orderer (suc (node - orderer_node d.config 1));
-    is = (let below : suc (node - orderer_node d.config 1) < d.config.orderers = omega arith in below);
-    learns = tt;
-    at = (let same : node ≡ orderer_node d.config (suc (node - orderer_node d.config 1)) = omega arith in same);
-  }
-
-  each_learner : (P : Sent → Type 0) (message : Message) → ((node : ℕ) → ToLearner d node → P (letter node message)) → AllByRecursion P (to_learners d.config 0 message)
-  unfolding to_learners
-  each_learner P message h =
-      all_append P (to_nodes 0 (storage_nodes d.config) message ++ to_nodes (before_orderers d.config) 0 message) (to_nodes (orderer_node d.config 1) (d.config.orderers - 1) message)
-      (all_append P (to_nodes 0 (storage_nodes d.config) message) (to_nodes (before_orderers d.config) 0 message)
-      (to_nodes_all P message 0 (storage_nodes d.config) (λ node low high. h node (storage_learner node (omega arith))))
-      tt)
-      (to_nodes_all P message (orderer_node d.config 1) (d.config.orderers - 1) (λ node low high. h node (other_learner node low high)))
-
-  to_each_learner : (P : Sent → Type 0) (message : Message) (role : Role) → IsRole d.config role → IsLearner role → P (letter (node_of d.config role) message)
-      → Waits P (to_learners d.config 0 message)
-  unfolding to_learners
-  to_each_learner P message (Storage s r) is learns h =
-      waits_left P (to_nodes 0 (storage_nodes d.config) message ++ to_nodes (before_orderers d.config) 0 message) (to_nodes (orderer_node d.config 1) (d.config.orderers - 1) message)
-      (waits_left P (to_nodes 0 (storage_nodes d.config) message) (to_nodes (before_orderers d.config) 0 message)
-      (node_waits P message (storage_node d.config s.0 r.0) 0 (storage_nodes d.config) h (omega arith) (let below = storage_node-lt d.config s.0 r.0 is.0 is.1 in omega arith)))
-  to_each_learner P message (Gatherer i) is learns h = absurd learns
-  to_each_learner P message (Orderer zero) is learns h = absurd learns
-  to_each_learner P message (Orderer (suc i)) is learns h =
-      waits_right P (to_nodes 0 (storage_nodes d.config) message ++ to_nodes (before_orderers d.config) 0 message) (to_nodes (orderer_node d.config 1) (d.config.orderers - 1) message)
-      (node_waits P message (orderer_node d.config (suc i)) (orderer_node d.config 1) (d.config.orderers - 1) h (omega arith) (omega arith))
 
 -- ---- the leader after a letter
 
@@ -126,18 +56,18 @@ pub record LeaderTaken (d : Decision) (nodes : ℕ → NodeState) (rest : List S
   pub stage : (later : ℕ → NodeState) → ((role : Role) → IsRole d.config role → IsLearner role → later (node_of d.config role) ≡ nodes (node_of d.config role))
       → Stage d later (rest ++ made.outputs) voter.orderer
 
-no_wishes : (replicas : ℕ) (values : List Value) (heard : Lengths) (wishes : List Wish) → wish_of replicas values heard wishes ≡ None → wishes ≡ []
+pub no_wishes : (replicas : ℕ) (values : List Value) (heard : Lengths) (wishes : List Wish) → wish_of replicas values heard wishes ≡ None → wishes ≡ []
 no_wishes replicas values heard [] e = refl
 no_wishes replicas values heard (wish ∷ wishes) e = absurd (cc)
 
+-- a leader whose list stays, with some memory
+abbrev pub stays_at : Node → OrdererMemory → Node
+stays_at node o = record { durable = node.durable; mode = Running o }
+
+abbrev pub voter_at : (d : Decision) (node : Node) → IsVoter d 0 node → (o : OrdererMemory) → (o.known ≡ d.agreed.values) ⊎ (o.known ≡ values_of d) → IsVoter d 0 (stays_at node o)
+voter_at d node h o knows = record { orderer = o; runs = refl; cast = h.cast; knows = knows; follows = tt }
+
 module _ (d : Decision) (can : IsDecision d) (nodes : ℕ → NodeState) (rest : List Sent) (to : NodeId) (node : Node) (h : IsVoter d 0 node) (place index : ℕ) where
-  -- the leader of some memory goes on with the letters left
-  abbrev stays_node : OrdererMemory → Node
-  stays_node o = record { durable = node.durable; mode = Running o }
-
-  abbrev voter_with : (o : OrdererMemory) → (o.known ≡ d.agreed.values) ⊎ (o.known ≡ values_of d) → IsVoter d 0 (stays_node o)
-  voter_with o knows = record { orderer = o; runs = refl; cast = h.cast; knows = knows; follows = tt }
-
   -- ---- an acceptance
 
   module _ (ballot : Ballot) (slot : Slot) (who : ℕ) (e : ballot.0 ≡ d.agreed.ballot) (f : slot.0 ≡ slot_of d) (below : who < d.config.orderers) where
@@ -201,11 +131,11 @@ module _ (d : Decision) (can : IsDecision d) (nodes : ℕ → NodeState) (rest :
 
         pub waits_on : LeaderTaken d nodes rest x h.orderer node place index
         waits_on = record {
-          made = record { state = Ordering (stays_node waiting); outputs = []; reply = Silence };
+          made = record { state = Ordering (stays_at node waiting); outputs = []; reply = Silence };
           rule = orderer_takes d.config 0 can.some node h.orderer (quiet waiting) h.runs (Deliver place index (Some (Accepted ballot slot who))) refl (ap Some row_few);
-          after = stays_node waiting;
+          after = stays_at node waiting;
           state = refl;
-          voter = voter_with waiting (inl p.knows);
+          voter = voter_at d node h waiting (inl p.knows);
           letters = tt;
           stage = λ later same. Proposed still_proposes (λ j b. subst (λ (queue : List Sent). Counts d queue (marked p.pending.accepted who) j) (sym (append-nil rest)) (counts_now j (counts j b)));
         }
@@ -300,11 +230,11 @@ module _ (d : Decision) (can : IsDecision d) (nodes : ℕ → NodeState) (rest :
 
           pub then_decided : LeaderTaken d nodes rest x h.orderer node place index
           then_decided = record {
-            made = record { state = Ordering (stays_node (with_leader knowing_it (Some l))); outputs = then_change.outputs; reply = Silence };
+            made = record { state = Ordering (stays_at node (with_leader knowing_it (Some l))); outputs = then_change.outputs; reply = Silence };
             rule = orderer_takes d.config 0 can.some node h.orderer then_change h.runs (Deliver place index (Some (Accepted ballot slot who))) refl (ap Some then_row);
-            after = stays_node (with_leader knowing_it (Some l));
+            after = stays_at node (with_leader knowing_it (Some l));
             state = refl;
-            voter = voter_with (with_leader knowing_it (Some l)) (inr values_are);
+            voter = voter_at d node h (with_leader knowing_it (Some l)) (inr values_are);
             letters = all_append (IsVotingLetter d) decides (next_letters d.config freed.ballot next) decides_good good;
             stage = λ later same. Decided done
                 (λ role is learns. Is_told
@@ -375,11 +305,11 @@ module _ (d : Decision) (can : IsDecision d) (nodes : ℕ → NodeState) (rest :
 
       pub decided_accepted : LeaderTaken d nodes rest x h.orderer node place index
       decided_accepted = record {
-        made = record { state = Ordering (stays_node h.orderer); outputs = []; reply = Silence };
+        made = record { state = Ordering (stays_at node h.orderer); outputs = []; reply = Silence };
         rule = orderer_takes d.config 0 can.some node h.orderer (quiet h.orderer) h.runs (Deliver place index (Some (Accepted ballot slot who))) refl (ap Some nothing_waits);
-        after = stays_node h.orderer;
+        after = stays_at node h.orderer;
         state = refl;
-        voter = voter_with h.orderer h.knows;
+        voter = voter_at d node h h.orderer h.knows;
         letters = tt;
         stage = λ later same.
             subst (λ (queue : List Sent). Stage d later queue h.orderer) (sym (append-nil rest))
@@ -389,132 +319,3 @@ module _ (d : Decision) (can : IsDecision d) (nodes : ℕ → NodeState) (rest :
     pub accepted_taken : Stage d nodes (x ∷ rest) h.orderer → LeaderTaken d nodes rest x h.orderer node place index
     accepted_taken (Proposed p counts) = proposed_accepted p counts
     accepted_taken (Decided p learns ready) = decided_accepted p learns ready
-
-  -- ---- a promise
-
-  module _ (ballot : Ballot) (slot : Slot) (who : ℕ) (reported : List Vote) (e : ballot.0 ≡ d.agreed.ballot) (f : slot.0 ≡ suc (slot_of d)) (below : who < d.config.orderers) (none : reported ≡ []) where
-    abbrev y : Sent
-    y = record { to = to; message = Promised ballot slot who reported }
-
-    -- a leader that has its window does not wait for it
-    not_awaited : (leader : Leader) → h.orderer.leader ≡ Some leader → leader.window ≤ slot_of d → on_promised d.config h.orderer ballot.0 slot.0 who reported ≡ quiet h.orderer
-    unfolding on_promised
-    not_awaited leader leads low =
-        ap (λ (l : Option Leader). promised_to d.config h.orderer l ballot.0 slot.0 who reported) leads
-        ∙ cond-false (awaits_promise leader ballot.0 slot.0) (go_on d.config h.orderer (with_promise leader who reported) []) (quiet h.orderer)
-        (and_right (leader.ballot == ballot.0) (leader.window == slot.0) (ne_eqb leader.window slot.0 (λ same. absurd (omega arith))))
-
-    module _ (nothing : on_promised d.config h.orderer ballot.0 slot.0 who reported ≡ quiet h.orderer)
-        (stage : (later : ℕ → NodeState) → ((role : Role) → IsRole d.config role → IsLearner role → later (node_of d.config role) ≡ nodes (node_of d.config role)) → Stage d later rest h.orderer) where
-      passed_over : LeaderTaken d nodes rest y h.orderer node place index
-      passed_over = record {
-        made = record { state = Ordering (stays_node h.orderer); outputs = []; reply = Silence };
-        rule = orderer_takes d.config 0 can.some node h.orderer (quiet h.orderer) h.runs (Deliver place index (Some (Promised ballot slot who reported))) refl (ap Some nothing);
-        after = stays_node h.orderer;
-        state = refl;
-        voter = voter_with h.orderer h.knows;
-        letters = tt;
-        stage = λ later same. subst (λ (queue : List Sent). Stage d later queue h.orderer) (sym (append-nil rest)) (stage later same);
-      }
-
-    counts_still : (marks : List Bool) (j : ℕ) → Counts d (y ∷ rest) marks j → Counts d rest marks j
-    counts_still marks j (Marked m) = Marked m
-    counts_still marks j (Accepts_it (inl other)) = absurd other
-    counts_still marks j (Accepts_it (inr w)) = Accepts_it w
-    counts_still marks j (Is_asked (inl asked)) = absurd asked.1
-    counts_still marks j (Is_asked (inr w)) = Is_asked w
-
-    learns_still : (later : ℕ → NodeState) → ((role : Role) → IsRole d.config role → IsLearner role → later (node_of d.config role) ≡ nodes (node_of d.config role))
-        → (role : Role) → IsRole d.config role → IsLearner role → Learns d nodes (y ∷ rest) role → Learns d later rest role
-    learns_still later same role is l (Knows k) = Knows (ap (λ (state : NodeState). count_in state) (same role is l) ∙ k)
-    learns_still later same role is l (Is_told (inl told_it)) = absurd told_it.1
-    learns_still later same role is l (Is_told (inr w)) = Is_told w
-
-    -- the promise is counted
-    module _ (p : IsDone d h.orderer) (learns : (role : Role) → IsRole d.config role → IsLearner role → Learns d nodes (y ∷ rest) role)
-        (window : p.leader.window ≡ suc (slot_of d)) (size : length p.leader.answered ≡ 7) (renews : (j : ℕ) → j < d.config.orderers → Renews d (y ∷ rest) p.leader.answered j) where
-      abbrev promised_leader : Leader
-      promised_leader = with_promise p.leader who reported
-
-      best_is : (with_promise p.leader who reported).best ≡ no_votes
-      best_is =
-          ap (λ (votes : List Vote). merge p.leader.window p.leader.best votes) none
-          ∙ ap (λ (best : List (Option Vote)). merge p.leader.window best []) p.none_reported
-          ∙ merges_none p.leader.window
-
-      room : who < length p.leader.answered
-      room = omega (arith, size, can.range.orderers)
-
-      still_no_wish : wish_of d.config.replicas h.orderer.known h.orderer.heard h.orderer.wishes ≡ None
-      still_no_wish =
-          ap (λ (values : List Value). wish_of d.config.replicas values h.orderer.heard h.orderer.wishes) p.knows
-          ∙ ap (λ (heard : Lengths). wish_of d.config.replicas (values_of d) heard h.orderer.wishes) p.told
-          ∙ ap (λ (wishes : List Wish). wish_of d.config.replicas (values_of d) (all_lengths d.config d.lists) wishes) (p.no_wish ∙ sym left)
-          ∙ can.next.last
-        where
-          left : left_wishes d.agreed.wishes (slot_of d) d.value ≡ []
-          left = no_wishes d.config.replicas (values_of d) (all_lengths d.config d.lists) (left_wishes d.agreed.wishes (slot_of d) d.value) can.next.last
-
-      known_is : length h.orderer.known ≡ suc (slot_of d)
-      known_is = ap length p.knows ∙ longer d
-
-      abbrev counted_change : Change
-      counted_change = told (with_leader h.orderer (Some promised_leader)) []
-
-      promise_row : on_promised d.config h.orderer ballot.0 slot.0 who reported ≡ counted_change
-      unfolding on_promised
-      promise_row =
-          ap (λ (l : Option Leader). promised_to d.config h.orderer l ballot.0 slot.0 who reported) p.leads
-          ∙ cond-true (awaits_promise p.leader ballot.0 slot.0) (go_on d.config h.orderer promised_leader []) (quiet h.orderer)
-          (and_from (p.leader.ballot == ballot.0) (p.leader.window == slot.0) (eq-eqb p.leader.ballot ballot.0 (p.owns ∙ sym e)) (eq-eqb p.leader.window slot.0 (window ∙ sym f)))
-          ∙ goes_on_as d.config h.orderer promised_leader [] None (record { leader = promised_leader; next = Nothing }) still_no_wish
-          (rests d.config.orderers promised_leader (length h.orderer.known) p.none_pending best_is (λ few. let inside = p.within (omega (arith, few, known_is)) in omega (arith, known_is)))
-
-      abbrev done_on : IsDone d (with_leader h.orderer (Some promised_leader))
-      done_on = record {
-        knows = p.knows;
-        no_wish = p.no_wish;
-        told = p.told;
-        heard = p.heard;
-        leader = promised_leader;
-        leads = refl;
-        owns = p.owns;
-        none_reported = best_is;
-        none_pending = p.none_pending;
-        begun = p.begun;
-        within = p.within;
-      }
-
-      renews_on : (j : ℕ) → Renews d (y ∷ rest) p.leader.answered j → Renews d rest (marked p.leader.answered who) j
-      renews_on j (Promised_it m) = Promised_it (still_marked p.leader.answered who room j m)
-      renews_on j (Promises_it (inl same)) = Promised_it (subst (λ (n : ℕ). is_marked (marked p.leader.answered who) n ≡ true) same (now_marked p.leader.answered who room))
-      renews_on j (Promises_it (inr w)) = Promises_it w
-      renews_on j (Is_prepared (inl asked)) = absurd asked.1
-      renews_on j (Is_prepared (inr w)) = Is_prepared w
-
-      promise_counted : LeaderTaken d nodes rest y h.orderer node place index
-      promise_counted = record {
-        made = record { state = Ordering (stays_node (with_leader h.orderer (Some promised_leader))); outputs = []; reply = Silence };
-        rule = orderer_takes d.config 0 can.some node h.orderer counted_change h.runs (Deliver place index (Some (Promised ballot slot who reported))) refl (ap Some promise_row);
-        after = stays_node (with_leader h.orderer (Some promised_leader));
-        state = refl;
-        voter = voter_with (with_leader h.orderer (Some promised_leader)) h.knows;
-        letters = tt;
-        stage = λ later same.
-            subst (λ (queue : List Sent). Stage d later queue (with_leader h.orderer (Some promised_leader))) (sym (append-nil rest))
-            (Decided done_on (λ role is l. learns_still later same role is l (learns role is l))
-            (Renewing window (length-set p.leader.answered who true ∙ size) (λ j b. renews_on j (renews j b))));
-      }
-
-    promised_ready : (p : IsDone d h.orderer) → ((role : Role) → IsRole d.config role → IsLearner role → Learns d nodes (y ∷ rest) role) → IsReady d (y ∷ rest) p.leader
-        → LeaderTaken d nodes rest y h.orderer node place index
-    promised_ready p learns (In_window low many) =
-        passed_over (not_awaited p.leader p.leads low)
-        (λ later same. Decided p (λ role is l. learns_still later same role is l (learns role is l)) (In_window low many))
-    promised_ready p learns (Renewing window size renews) = promise_counted p learns window size renews
-
-    pub promised_taken : Stage d nodes (y ∷ rest) h.orderer → LeaderTaken d nodes rest y h.orderer node place index
-    promised_taken (Proposed p counts) =
-        passed_over (not_awaited p.leader p.leads p.begun)
-        (λ later same. Proposed p (λ j b. counts_still p.pending.accepted j (counts j b)))
-    promised_taken (Decided p learns ready) = promised_ready p learns ready

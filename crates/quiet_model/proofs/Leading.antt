@@ -1,19 +1,18 @@
 -- The rows of a leader to whom no vote was reported: it proposes its wish, counts acceptances, and rests without a wish.
-use Rattle.std.proofs.Common.{◌≡◌, ◌≢◌, ◌+◌, ◌-◌, ◌/◌, ◌%◌, ◌<◌, ◌≤◌, ℕ, zero, suc, Bool, true, false, cond, ◌==◌, nat_le, List, [], ◌∷◌, ◌++◌, length, drop, replicate, Option, Some, None, refl, sym, ap, subst, arith, ◌∙◌, eq-eqb}
+use Rattle.std.proofs.Common.{◌≡◌, ◌+◌, ◌-◌, ◌/◌, ◌<◌, ◌≤◌, ℕ, zero, suc, Bool, true, false, cond, nat_le, List, [], ◌∷◌, length, drop, replicate, Option, None, refl, ap, arith, ◌∙◌}
 use Rattle.std.specs.Prelude.{is_some, slice_index_or}
 use Rattle.std.specs.List.{list_any}
 use Rattle.std.proofs.lemmas.Bool.{cond-false, cond-true, le-leb, leb-false, leb-true, lt-leb}
-use Rattle.reply_frame.specs.declared.replies.Reply.{Nothing as Silence}
 use Rattle.history_frame.specs.declared.events.Sent.{Sent}
 use Rattle.log_base.specs.ClusterShape.{Shape}
 use Rattle.message_frame.specs.declared.messages.Vote.{Vote}
-use Rattle.paxos_model.specs.Leader.{Advanced, Leader, Next, Propose, Window, Nothing, Pending, advance, bound_value, leader_from, merge, next_of, next_unless, no_votes, picked, propose, slot_limit}
+use Rattle.paxos_model.specs.Leader.{Advanced, Leader, Window, Nothing, Pending, advance, bound_value, leader_from, merge, next_of, next_unless, no_votes, picked, propose, slot_limit}
 use Rattle.paxos_model.specs.Learner.{wish_of}
 use Rattle.paxos_model.specs.Majority.{is_majority, is_marked, most, no_marks, tally}
-use Rattle.paxos_model.specs.Votes.{keep, window_size}
+use Rattle.paxos_model.specs.Votes.{window_size}
 use Rattle.record_frame.specs.declared.values.Value.{Value}
-use Rattle.node_model.specs.OrdererNode.{Change, Orderer as OrdererMemory}
-use Rattle.node_model.specs.OrdererRow.{advanced_as, go_on, next_letters}
+use Rattle.node_model.specs.OrdererNode.{Orderer as OrdererMemory}
+use Rattle.node_model.specs.OrdererRow.{advanced_as, go_on}
 
 -- ---- windows without votes
 

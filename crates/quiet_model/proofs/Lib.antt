@@ -20,7 +20,9 @@ pub mod Leading
 pub mod Decision
 pub mod Carrying
 pub mod VoteTaken
+pub mod Many
 pub mod LeaderTaken
+pub mod PromiseTaken
 pub mod Polling
 pub mod Deciding
 pub mod Settling

@@ -1,5 +1,5 @@
 -- The orderers tick: the leader proposes its wish, and the others want what was decided.
-use Rattle.std.proofs.Common.{◌≡◌, ◌≢◌, ◌⊎◌, ◌+◌, ◌-◌, ◌%◌, ◌<◌, ◌≤◌, ℕ, zero, suc, Bool, true, false, cond, ◌==◌, List, [], ◌∷◌, ◌++◌, length, Option, Some, None, refl, sym, ap, subst, inl, inr, ⊎_elim, arith, ◌∙◌}
+use Rattle.std.proofs.Common.{◌≡◌, ◌+◌, ◌-◌, ◌%◌, ◌<◌, ◌≤◌, ℕ, zero, suc, cond, ◌==◌, List, [], ◌∷◌, ◌++◌, length, Option, Some, None, refl, sym, ap, subst, inl, ⊎_elim, arith, ◌∙◌}
 use Rattle.std.specs.List.{AllByRecursion}
 use Rattle.std.proofs.lemmas.Bool.{cond-true, cond_both}
 use Rattle.std.proofs.lemmas.Option.{same_Some}
@@ -11,8 +11,8 @@ use Rattle.log_base.specs.ClusterShape.{Shape}
 use Rattle.message_frame.specs.declared.messages.Vote.{Vote}
 use Rattle.node_table.specs.declared.role.Role.{Role}
 use Rattle.node_table.specs.declared.role.Role.TheVariants.{Storage, Gatherer, Orderer}
-use Rattle.node_table.specs.Numbering.{IsRole, node_of, orderer_node}
-use Rattle.paxos_model.specs.Leader.{Advanced, Leader, Next, Propose, Pending, no_votes, propose}
+use Rattle.node_table.specs.Numbering.{node_of, orderer_node}
+use Rattle.paxos_model.specs.Leader.{Leader, Pending, propose}
 use Rattle.paxos_model.specs.Learner.{Wish, wish_of}
 use Rattle.paxos_model.specs.Majority.{most, no_marks}
 use Rattle.paxos_model.specs.Votes.{Payload, votes}
@@ -23,14 +23,14 @@ use Rattle.node_model.specs.Messages.{accept_message, want_message}
 use Rattle.node_model.specs.Nodes.{letter, to_orderers}
 use Rattle.node_model.specs.NodeState.{NodeOutcome, NodeState, Storing, Gathering, Ordering, node_outcome}
 use Rattle.node_model.specs.OrdererNode.{Change, Mode as OrdererMode, Node, Orderer as OrdererMemory}
-use Rattle.node_model.specs.OrdererRow.{go_on, on_tick, one_tick, tick_leader, tick_pending, told, with_leader}
+use Rattle.node_model.specs.OrdererRow.{on_tick, one_tick, tick_leader, tick_pending, told, with_leader}
 use Rattle.node_model.proofs.Letters.{all_append}
 use Rattle.quiet_model.specs.Moments.{Moment, TakeInTurn, Takes}
 use Rattle.quiet_model.specs.Settled.{AreTold, IsAcceptor, IsLeader, IsOldVote, IsOrderer, IsSettled, LeadsAlone, all_lengths, heard_by, heard_in}
 use Rattle.quiet_model.proofs.Carrying.{Carries, stage_on}
-use Rattle.quiet_model.proofs.Decision.{Decision, Counts, Is_asked, Learns, Is_told, Stage, Proposed, AcceptTo, AreVotingLetters, DecideTo, IsDecision, IsFollower, IsLearning, IsProposing, IsVoter, IsVoting, IsVotingLetter, UnderVote, AcceptedFrom, PrepareTo, PromisedFrom, count_in, known_of, memory_by, memory_in, slot_of}
+use Rattle.quiet_model.proofs.Decision.{Decision, Is_asked, Is_told, Proposed, AcceptTo, AreVotingLetters, DecideTo, IsDecision, IsFollower, IsProposing, IsVoter, IsVoting, IsVotingLetter, UnderVote, AcceptedFrom, PrepareTo, PromisedFrom, count_in, known_of, memory_by, memory_in, slot_of}
 use Rattle.quiet_model.proofs.Gathering.{IsSettledNode}
-use Rattle.quiet_model.proofs.LeaderTaken.{each_orderer, to_each}
+use Rattle.quiet_model.proofs.Many.{each_orderer, to_each}
 use Rattle.quiet_model.proofs.Leading.{asks_for, goes_on_as, marks_size, none_are_few}
 use Rattle.quiet_model.proofs.Moving.{Moves, moved}
 use Rattle.quiet_model.proofs.Outcomes.{orderer_takes}

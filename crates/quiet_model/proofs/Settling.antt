@@ -1,5 +1,4 @@
 -- All four rounds of settling.
-use Rattle.std.proofs.Common.{List}
 use Rattle.log_base.specs.ClusterShape.{InRange, Shape}
 use Rattle.record_frame.specs.declared.values.Value.{Value}
 use Rattle.quiet_model.specs.Ahead.{IsAhead}

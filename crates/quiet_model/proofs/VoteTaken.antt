@@ -1,5 +1,5 @@
 -- Letters of a decision that leave the leader's memory: proposals, prepares, wants and decisions.
-use Rattle.std.proofs.Common.{◌≡◌, ◌≢◌, ◌⊎◌, ◌+◌, ◌<◌, ◌≤◌, ℕ, zero, suc, Bool, true, false, cond, ◌==◌, List, [], ◌∷◌, ◌++◌, length, slice_get, Option, Some, None, refl, sym, ap, subst, inl, inr, ⊎_elim, arith, append-nil, length-append, eq-eqb, ◌∙◌}
+use Rattle.std.proofs.Common.{◌≡◌, ◌⊎◌, ◌<◌, ℕ, suc, ◌==◌, List, [], ◌∷◌, ◌++◌, length, slice_get, Option, Some, None, refl, sym, ap, subst, inl, inr, arith, append-nil, length-append, eq-eqb, ◌∙◌}
 use Rattle.std.proofs.lemmas.Bool.{cond-false, cond-true, ne_eqb}
 use Rattle.reply_frame.specs.declared.replies.Reply.{Nothing}
 use Rattle.history_frame.specs.declared.events.Sent.{Sent}
@@ -16,9 +16,9 @@ use Rattle.log_model.specs.Spelling.{spell}
 use Rattle.log_model.specs.Storage.{Knowledge, Member, knowledge_of}
 use Rattle.log_model.proofs.Appending.{chain_of-append, spell-append}
 use Rattle.message_frame.specs.declared.messages.Message.{Message}
-use Rattle.message_frame.specs.declared.messages.Message.TheVariants.{Copy, CopyAck, Report, Least, Prepare, Promised, Lower, Accept, Accepted, Decide, Want}
+use Rattle.message_frame.specs.declared.messages.Message.TheVariants.{Prepare, Accept, Decide, Want}
 use Rattle.node_table.specs.declared.role.Role.{Role}
-use Rattle.node_table.specs.declared.role.Role.TheVariants.{Storage, Gatherer, Orderer}
+use Rattle.node_table.specs.declared.role.Role.TheVariants.{Orderer}
 use Rattle.node_table.specs.Numbering.{node_of, orderer_node}
 use Rattle.paxos_model.specs.Learner.{Wish, learn, left_wishes}
 use Rattle.paxos_model.specs.Leader.{Leader}
@@ -27,13 +27,13 @@ use Rattle.record_frame.specs.declared.values.Value.{Value}
 use Rattle.node_model.specs.Marks.{Running, stored_with}
 use Rattle.node_model.specs.Messages.{accepted_message, decide_message, promised_message}
 use Rattle.node_model.specs.Nodes.{letter}
-use Rattle.node_model.specs.NodeState.{NodeOutcome, NodeState, Storing, Gathering, Ordering, node_outcome}
+use Rattle.node_model.specs.NodeState.{NodeOutcome, NodeState, Storing, Ordering, node_outcome}
 use Rattle.node_model.specs.OrdererNode.{Change, Mode as OrdererMode, Node, Orderer as OrdererMemory, with_put}
 use Rattle.node_model.specs.OrdererRow.{decide_letter, decide_letters, leader_after, learned, on_accept, on_prepare, on_want, orderer_role, quiet, told}
-use Rattle.node_model.specs.StorageNode.{Replica, StorageChange, StorageMode, StorageNode, member_of}
+use Rattle.node_model.specs.StorageNode.{Replica, StorageNode, member_of}
 use Rattle.node_model.specs.StorageRow.{on_decide, told as storage_told}
 use Rattle.quiet_model.specs.Settled.{IsAcceptor}
-use Rattle.quiet_model.proofs.Decision.{Decision, AcceptedFrom, AreVotingLetters, IsAccept, IsAcceptedBy, IsDecide, IsDecision, IsFollower, IsLearner, IsLearning, IsPrepare, IsPromisedBy, IsVoter, IsVoting, PromisedFrom, ToLearner, count_in, known_by, known_of, memory_by, memory_in, slot_of, values_of}
+use Rattle.quiet_model.proofs.Decision.{Decision, AcceptedFrom, AreVotingLetters, IsAccept, IsAcceptedBy, IsDecide, IsDecision, IsFollower, IsLearning, IsPrepare, IsPromisedBy, IsVoter, IsVoting, PromisedFrom, ToLearner, count_in, known_of, memory_by, memory_in, slot_of, values_of}
 use Rattle.quiet_model.proofs.Outcomes.{orderer_takes, replica_takes}
 use Rattle.quiet_model.proofs.Rows.{last_entry, none_decided}
 use Rattle.quiet_model.proofs.Voting.{Accepts, accepts, promises}

@@ -1,5 +1,5 @@
 -- The rows of an acceptor that promised the one ballot: it accepts, and promises again without votes to report.
-use Rattle.std.proofs.Common.{◌≡◌, ◌+◌, ◌/◌, ◌%◌, ◌<◌, ◌≤◌, ℕ, zero, suc, max, Bool, true, false, cond, ◌==◌, ◌&&◌, nat_lt, List, [], ◌∷◌, ◌++◌, length, Option, Some, None, refl, sym, ap, subst, arith, ◌∙◌, eq-eqb}
+use Rattle.std.proofs.Common.{◌≡◌, ◌%◌, ℕ, zero, suc, max, Bool, true, false, cond, ◌==◌, ◌&&◌, nat_lt, List, [], ◌∷◌, ◌++◌, Option, Some, None, refl, sym, ap, subst, arith, ◌∙◌, eq-eqb}
 use Rattle.std.specs.List.{AllByRecursion}
 use Rattle.std.proofs.lemmas.Bool.{cond-false, cond-true, le-ltb}
 use Rattle.reply_frame.specs.declared.replies.Reply.{Nothing}
@@ -7,7 +7,7 @@ use Rattle.log_base.specs.ClusterShape.{Shape}
 use Rattle.message_frame.specs.declared.messages.Message.{Message}
 use Rattle.message_frame.specs.declared.messages.Vote.{Vote}
 use Rattle.node_table.specs.Numbering.{orderer_node}
-use Rattle.paxos_model.specs.Acceptor.{Accepted, TooLow, Taken, Promised, Refused, Granted, accept, prepare}
+use Rattle.paxos_model.specs.Acceptor.{TooLow, Taken, Refused, Granted, accept, prepare}
 use Rattle.paxos_model.specs.Votes.{Payload, Promise, Voted, counts, greatest, has_vote, keep, promised, put_first, reports, vote_of, votes, window_size}
 use Rattle.record_frame.specs.declared.values.Value.{Value}
 use Rattle.node_model.specs.Messages.{accepted_message, promised_message}
