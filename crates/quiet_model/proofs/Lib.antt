@@ -26,3 +26,4 @@ pub mod PromiseTaken
 pub mod Polling
 pub mod Deciding
 pub mod Settling
+pub mod Calling

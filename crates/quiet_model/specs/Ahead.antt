@@ -1,6 +1,7 @@
 -- A moment at which primaries may be ahead of their peers: each may hold one entry more at the end of its own list.
-use Rattle.std.specs.Prelude.{◌≡◌, ℕ, ◌<◌, List, [], ◌∷◌, ◌++◌, slice_set}
+use Rattle.std.specs.Prelude.{◌≡◌, ℕ, ◌<◌, List, [], ◌∷◌, ◌++◌, length, slice_set, ◌==◌, if◌then◌else◌}
 use Rattle.log_base.specs.ClusterShape.{Shape}
+use Rattle.log_model.specs.Storage.{with_entry}
 use Rattle.node_table.specs.declared.role.Role.{Role}
 use Rattle.node_table.specs.Numbering.{IsRole, node_of}
 use Rattle.record_frame.specs.declared.entries.Entry.{Entry}
@@ -27,3 +28,7 @@ pub record IsAhead (config : Shape) (agreed : Agreed) (from to : ListsOf) (momen
   pub more : AreAsOrMore config from to
   pub nodes : (role : Role) → IsRole config role → Stands config agreed (own_ahead from to) (all_acked from) from role (moment.nodes (node_of config role))
   pub queue : moment.queue ≡ []
+
+-- the lists once one has an entry more
+abbrev pub with_one_more : ListsOf → ℕ → ℕ → Entry → ListsOf
+with_one_more lists shard segment entry other = if other == shard then with_entry (lists other) segment entry else lists other

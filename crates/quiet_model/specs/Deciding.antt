@@ -1,5 +1,5 @@
 -- The one value that a leader decides in a round: its wish, or the cut of all lengths, after which it has no further one.
-use Rattle.std.specs.Prelude.{◌≡◌, ℕ, ◌<◌, List, [], ◌∷◌, ◌++◌, length, Option, Some, None}
+use Rattle.std.specs.Prelude.{◌≡◌, ◌<◌, [], ◌∷◌, ◌++◌, length, Some, None}
 use Rattle.log_base.specs.ClusterShape.{Shape}
 use Rattle.paxos_model.specs.Leader.{slot_limit}
 use Rattle.paxos_model.specs.Learner.{left_wishes, wish_of}
@@ -14,3 +14,7 @@ pub record IsNextDecision (config : Shape) (agreed : Agreed) (lists : ListsOf) (
 -- what is agreed on then
 abbrev pub decided_on : Agreed → Value → Agreed
 decided_on agreed value = record agreed { values = agreed.values ++ value ∷ []; wishes = [] }
+
+-- what is agreed on while one wish more waits
+abbrev pub wishing : Agreed → Value → Agreed
+wishing agreed value = record agreed { wishes = agreed.wishes ++ record { value = value; from = length agreed.values } ∷ [] }

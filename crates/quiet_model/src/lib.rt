@@ -6,9 +6,11 @@
 //! `specs/Deciding.antt` which value is decided next. The functions do nothing: their contracts are the laws.
 #![tactic(auto)]
 
+mod calls;
 mod laws;
 mod steps;
 
+pub use calls::{request_waits, submission_goes_ahead};
 pub use laws::{
     copies_catch_up, none_is_ahead, orderers_are_told, settled_stays_settled, settling_settles,
     value_is_decided,
