@@ -1,23 +1,22 @@
 -- What the calls of an append and of an addition make of a settled moment.
-use Rattle.std.proofs.Common.{◌≡◌, ◌≢◌, ◌⊎◌, ◌<◌, ◌≤◌, ℕ, zero, suc, Bool, true, false, cond, ◌==◌, List, [], ◌∷◌, ◌++◌, length, Option, Some, None, refl, sym, ap, subst, inl, inr, ⊎_elim, arith, append-nil, eq-eqb, ◌∙◌}
+use Rattle.std.proofs.Common.{◌≡◌, ◌≢◌, ◌⊎◌, ◌<◌, ◌≤◌, ℕ, zero, suc, false, ◌==◌, List, [], ◌∷◌, ◌++◌, length, Option, Some, refl, sym, ap, subst, inl, inr, ⊎_elim, arith, append-nil, eq-eqb, ◌∙◌}
 use Rattle.std.specs.Prelude.{slice_set}
 use Rattle.std.proofs.lemmas.Bool.{cases_eq, cond-false, cond-true, cond_both, ne_eqb}
 use Rattle.std.proofs.lemmas.Option.{same_Some}
 use Rattle.reply_frame.specs.declared.replies.Reply.{Reply, Stored as StoredAt, Taken as TakenWish}
-use Rattle.history_frame.specs.declared.inputs.Call.{Call}
 use Rattle.history_frame.specs.declared.inputs.Call.TheVariants.{Submit, Request}
 use Rattle.history_frame.specs.declared.inputs.Input.{Input}
 use Rattle.history_frame.specs.declared.inputs.Input.TheVariants.{Call as ACall}
 use Rattle.history_frame.specs.declared.inputs.Mark.{Mark}
 use Rattle.history_frame.specs.declared.inputs.Mark.TheVariants.{Done}
-use Rattle.log_base.specs.ClusterShape.{InRange, Shape}
+use Rattle.log_base.specs.ClusterShape.{Shape}
 use Rattle.log_base.specs.declared.numbers.Client.{Client}
 use Rattle.log_base.specs.declared.numbers.Number.{Number}
 use Rattle.log_model.specs.Storage.{Knowledge, knowledge_of, list_in, with_entry}
-use Rattle.log_model.specs.Submitting.{Stored, Submission, submit}
+use Rattle.log_model.specs.Submitting.{Stored, submit}
 use Rattle.node_table.specs.declared.role.Role.{Role}
 use Rattle.node_table.specs.declared.role.Role.TheVariants.{Storage, Gatherer, Orderer}
-use Rattle.node_table.specs.Numbering.{IsRole, node_of, orderer_node, storage_node}
+use Rattle.node_table.specs.Numbering.{node_of, orderer_node, storage_node}
 use Rattle.paxos_model.specs.Leader.{Leader}
 use Rattle.paxos_model.specs.Learner.{Wish}
 use Rattle.record_frame.specs.declared.entries.Entry.{Entry}
@@ -25,7 +24,7 @@ use Rattle.record_frame.specs.declared.values.Value.{Value}
 use Rattle.record_frame.specs.Entries.{entry_of}
 use Rattle.node_model.specs.Marks.{Running}
 use Rattle.node_model.specs.NodeState.{NodeOutcome, NodeState, Storing, Gathering, Ordering, node_outcome}
-use Rattle.node_model.specs.OrdererNode.{Change, Node, Orderer as OrdererMemory}
+use Rattle.node_model.specs.OrdererNode.{Change, Orderer as OrdererMemory}
 use Rattle.node_model.specs.OrdererRow.{answered, finalises_unknown, on_request, request_to}
 use Rattle.node_model.specs.StorageNode.{Replica, StorageChange, StorageNode, member_of}
 use Rattle.node_model.specs.StorageRow.{on_submit, submitted_as}
@@ -33,14 +32,13 @@ use Rattle.node_model.proofs.Lists.{length-with_entry, list_in-other, list_in-sa
 use Rattle.quiet_model.specs.Ahead.{AreAsOrMore, IsAhead, IsAsOrMore, More, Same, own_ahead, with_one_more}
 use Rattle.quiet_model.specs.Deciding.{wishing}
 use Rattle.quiet_model.specs.Moments.{Moment, Takes}
-use Rattle.quiet_model.specs.Settled.{Agreed, AreLists, IsLeader, IsOrderer, IsReplica, IsSettled, ListsOf, Stands, all_acked, list_at, lists_held}
+use Rattle.quiet_model.specs.Settled.{Agreed, AreLists, IsLeader, IsOrderer, IsReplica, IsSettled, ListsOf, Stands, all_acked, list_at}
 use Rattle.quiet_model.proofs.Follows.{as_role}
 use Rattle.quiet_model.proofs.Gathering.{IsSettledNode}
 use Rattle.quiet_model.proofs.Lists.{set_same}
-use Rattle.quiet_model.proofs.Moving.{Moves, moved, same_cell, same_role}
+use Rattle.quiet_model.proofs.Moving.{Moves, moved, same_role}
 use Rattle.quiet_model.proofs.Outcomes.{orderer_takes, replica_takes}
 use Rattle.quiet_model.proofs.Polling.{leading}
-use Rattle.quiet_model.proofs.VoteTaken.{same_index}
 
 -- the reply of what a node made
 reply_is : (config : Shape) (before after : Moment) (n : ℕ) (input : Input) (mark : Mark) (answer : Reply) → Takes config before n input mark answer after

@@ -1,47 +1,37 @@
 -- An acceptance that is delivered to the leader of a decision: it counts, and the most decide.
-use Rattle.std.proofs.Common.{◌≡◌, ◌≢◌, ◌⊎◌, ◌+◌, ◌-◌, ◌*◌, ◌/◌, ◌%◌, ◌<◌, ◌≤◌, ℕ, zero, suc, Bool, true, false, cond, ◌==◌, ◌&&◌, List, [], ◌∷◌, ◌++◌, length, get_or, set, Option, Some, None, refl, sym, ap, subst, inl, inr, ⊎_elim, arith, append-nil, eq-eqb, ◌∙◌}
-use Rattle.std.specs.Prelude.{slice_index_or, slice_set}
-use Rattle.std.specs.List.{AllByRecursion}
-use Rattle.std.proofs.lemmas.Bool.{and_from, and_right, cases_eq, cases_lt, cond-false, cond-true, ne_eqb}
-use Rattle.std.proofs.lemmas.List.{get_or-set_other, get_or-set_same, length-set}
+use Rattle.std.proofs.Common.{◌≡◌, ◌⊎◌, ◌+◌, ◌<◌, ◌≤◌, ℕ, suc, Bool, true, false, ◌==◌, List, [], ◌∷◌, ◌++◌, length, Option, Some, None, refl, sym, ap, subst, inl, inr, ⊎_elim, arith, append-nil, eq-eqb, ◌∙◌}
+use Rattle.std.proofs.lemmas.Bool.{cases_lt, cond-false, cond-true}
+use Rattle.std.proofs.lemmas.List.{length-set}
 use Rattle.reply_frame.specs.declared.replies.Reply.{Nothing as Silence}
 use Rattle.history_frame.specs.declared.events.Sent.{Sent}
 use Rattle.history_frame.specs.declared.inputs.Input.TheVariants.{Deliver}
 use Rattle.history_frame.specs.declared.inputs.Mark.TheVariants.{Done}
-use Rattle.log_base.specs.ClusterShape.{Shape}
 use Rattle.log_base.specs.declared.numbers.Ballot.{Ballot}
 use Rattle.log_base.specs.declared.numbers.NodeId.{NodeId}
 use Rattle.log_base.specs.declared.numbers.Slot.{Slot}
-use Rattle.message_frame.specs.declared.messages.Message.{Message}
-use Rattle.message_frame.specs.declared.messages.Message.TheVariants.{Accepted, Promised}
-use Rattle.message_frame.specs.declared.messages.Vote.{Vote}
+use Rattle.message_frame.specs.declared.messages.Message.TheVariants.{Accepted}
 use Rattle.node_table.specs.declared.role.Role.{Role}
-use Rattle.node_table.specs.declared.role.Role.TheVariants.{Storage, Gatherer, Orderer}
-use Rattle.node_table.specs.Numbering.{IsRole, node_of, orderer_node, storage_node}
-use Rattle.node_table.proofs.Roles.{storage_node-lt}
-use Rattle.paxos_model.specs.Leader.{Advanced, Leader, Next, Propose, Window, Nothing, Pending, advance, awaits_promise, drop_pending, leader_from, merge, no_votes, slot_limit, with_acceptance, with_promise, without_slot}
+use Rattle.node_table.specs.Numbering.{IsRole, node_of, orderer_node}
+use Rattle.paxos_model.specs.Leader.{Leader, Next, Window, Nothing, Pending, advance, drop_pending, leader_from, no_votes, slot_limit, with_acceptance, without_slot}
 use Rattle.paxos_model.specs.Learner.{Wish, learn, left_wishes, wish_of}
-use Rattle.paxos_model.specs.Majority.{is_marked, marked, most, no_marks}
+use Rattle.paxos_model.specs.Majority.{is_marked, marked, most}
 use Rattle.paxos_model.specs.Votes.{window_size}
 use Rattle.record_frame.specs.declared.values.Lengths.{Lengths}
 use Rattle.record_frame.specs.declared.values.Value.{Value}
 use Rattle.node_model.specs.Marks.{Running}
 use Rattle.node_model.specs.Messages.{decide_message, prepare_message}
-use Rattle.node_model.specs.Nodes.{before_orderers, letter, storage_nodes, to_learners, to_nodes, to_orderers}
+use Rattle.node_model.specs.Nodes.{to_learners, to_orderers}
 use Rattle.node_model.specs.NodeState.{NodeOutcome, NodeState, Ordering, node_outcome}
 use Rattle.node_model.specs.OrdererNode.{Change, Node, Orderer as OrdererMemory}
-use Rattle.node_model.specs.OrdererRow.{accepted_for, accepted_to, advanced_as, counted, decided_by, go_on, leader_after, learned, next_letters, on_accepted, on_promised, promised_to, quiet, told, with_leader}
-use Rattle.node_model.proofs.Letters.{all_append, to_nodes_all}
-use Rattle.quiet_model.specs.Deciding.{IsNextDecision}
+use Rattle.node_model.specs.OrdererRow.{accepted_for, accepted_to, counted, decided_by, go_on, leader_after, learned, next_letters, on_accepted, quiet, told, with_leader}
+use Rattle.node_model.proofs.Letters.{all_append}
 use Rattle.quiet_model.specs.Settled.{IsHeardCut, all_lengths}
-use Rattle.quiet_model.proofs.Decision.{Decision, Counts, Marked, Accepts_it, Is_asked, Learns, Knows, Is_told, Renews, Promised_it, Promises_it, Is_prepared, IsReady, In_window, Renewing, Stage, Proposed, Decided, AcceptTo, AcceptedFrom, AreVotingLetters, DecideTo, IsDecision, IsDone, IsLearner, IsProposing, IsVoter, IsVotingLetter, PrepareTo, PromisedFrom, ToLearner, ToOrderer, count_in, slot_of, values_of}
-use Rattle.quiet_model.proofs.Leading.{goes_on_as, marks_size, merges_none, renews, rests}
-use Rattle.quiet_model.proofs.Follows.{as_role}
-use Rattle.quiet_model.proofs.Moving.{replica_of}
+use Rattle.quiet_model.proofs.Decision.{Decision, Counts, Marked, Accepts_it, Is_asked, Learns, Knows, Is_told, Renews, Promised_it, Promises_it, Is_prepared, IsReady, In_window, Renewing, Stage, Proposed, Decided, AreVotingLetters, DecideTo, IsDecision, IsDone, IsLearner, IsProposing, IsVoter, IsVotingLetter, PrepareTo, count_in, slot_of, values_of}
+use Rattle.quiet_model.proofs.Leading.{goes_on_as, marks_size, renews, rests}
 use Rattle.quiet_model.proofs.Many.{each_learner, each_orderer, now_marked, still_marked, to_each, to_each_learner}
 use Rattle.quiet_model.proofs.Outcomes.{orderer_takes}
 use Rattle.quiet_model.proofs.VoteTaken.{learn_once, longer}
-use Rattle.quiet_model.proofs.Waiting.{Waits, waits_left, waits_right}
+use Rattle.quiet_model.proofs.Waiting.{waits_left, waits_right}
 
 -- ---- the leader after a letter
 
@@ -256,12 +246,12 @@ module _ (d : Decision) (can : IsDecision d) (nodes : ℕ → NodeState) (rest :
             then_decided (leader_from freed.ballot (length knowing_it.known)) (Window (length knowing_it.known))
             (renews d.config.orderers freed (length knowing_it.known) None is_free p.none_reported p.answered (omega (arith, known_length, past.0)) (omega (arith, known_length, past.1)))
             (done_with (leader_from freed.ballot (length knowing_it.known)) p.owns refl refl (omega (arith, known_length)) (λ few. omega (arith, known_length)))
-            (each_orderer d can (IsVotingLetter d) (prepare_message freed.ballot (length knowing_it.known)) (λ n orderer. (orderer, p.owns, known_length)))
+            (each_orderer d (IsVotingLetter d) (prepare_message freed.ballot (length knowing_it.known)) (λ n orderer. (orderer, p.owns, known_length)))
             (Renewing known_length marks_size
             (λ j b. Is_prepared
             (waits_right (PrepareTo d j) rest (decides ++ to_orderers d.config (prepare_message freed.ballot (length knowing_it.known)))
             (waits_right (PrepareTo d j) decides (to_orderers d.config (prepare_message freed.ballot (length knowing_it.known)))
-            (to_each d can (PrepareTo d j) (prepare_message freed.ballot (length knowing_it.known)) j b (refl, tt)))))))
+            (to_each d (PrepareTo d j) (prepare_message freed.ballot (length knowing_it.known)) j b (refl, tt)))))))
             window_cases
           where
             window_cases : (suc (slot_of d) < slot_limit → suc (slot_of d) < freed.window + window_size) ⊎ ((suc (slot_of d) < slot_limit) × (freed.window + window_size ≤ suc (slot_of d)))

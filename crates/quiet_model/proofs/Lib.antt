@@ -27,3 +27,6 @@ pub mod Polling
 pub mod Deciding
 pub mod Settling
 pub mod Calling
+pub mod Starting
+pub mod Promising
+pub mod Beginning

@@ -1,45 +1,20 @@
 -- Marks of orderers, and letters to all orderers and to all who learn.
-use Rattle.std.proofs.Common.{◌≡◌, ◌≢◌, ◌⊎◌, ◌+◌, ◌-◌, ◌*◌, ◌/◌, ◌%◌, ◌<◌, ◌≤◌, ℕ, zero, suc, Bool, true, false, cond, ◌==◌, ◌&&◌, List, [], ◌∷◌, ◌++◌, length, get_or, set, Option, Some, None, refl, sym, ap, subst, inl, inr, ⊎_elim, arith, append-nil, eq-eqb, ◌∙◌}
-use Rattle.std.specs.Prelude.{slice_index_or, slice_set}
+use Rattle.std.proofs.Common.{◌≡◌, ◌+◌, ◌-◌, ◌/◌, ◌%◌, ◌<◌, ◌≤◌, ℕ, zero, suc, Bool, true, false, List, ◌++◌, length, sym, subst, inl, inr, ⊎_elim, arith, ◌∙◌}
 use Rattle.std.specs.List.{AllByRecursion}
-use Rattle.std.proofs.lemmas.Bool.{and_from, and_right, cases_eq, cases_lt, cond-false, cond-true, ne_eqb}
-use Rattle.std.proofs.lemmas.List.{get_or-set_other, get_or-set_same, length-set}
-use Rattle.reply_frame.specs.declared.replies.Reply.{Nothing as Silence}
+use Rattle.std.proofs.lemmas.Bool.{cases_eq}
+use Rattle.std.proofs.lemmas.List.{get_or-set_other, get_or-set_same}
 use Rattle.history_frame.specs.declared.events.Sent.{Sent}
-use Rattle.history_frame.specs.declared.inputs.Input.TheVariants.{Deliver}
-use Rattle.history_frame.specs.declared.inputs.Mark.TheVariants.{Done}
-use Rattle.log_base.specs.ClusterShape.{Shape}
-use Rattle.log_base.specs.declared.numbers.Ballot.{Ballot}
-use Rattle.log_base.specs.declared.numbers.NodeId.{NodeId}
-use Rattle.log_base.specs.declared.numbers.Slot.{Slot}
 use Rattle.message_frame.specs.declared.messages.Message.{Message}
-use Rattle.message_frame.specs.declared.messages.Message.TheVariants.{Accepted, Promised}
-use Rattle.message_frame.specs.declared.messages.Vote.{Vote}
 use Rattle.node_table.specs.declared.role.Role.{Role}
 use Rattle.node_table.specs.declared.role.Role.TheVariants.{Storage, Gatherer, Orderer}
 use Rattle.node_table.specs.Numbering.{IsRole, node_of, orderer_node, storage_node}
 use Rattle.node_table.proofs.Roles.{storage_node-lt}
-use Rattle.paxos_model.specs.Leader.{Advanced, Leader, Next, Propose, Window, Nothing, Pending, advance, awaits_promise, drop_pending, leader_from, merge, no_votes, slot_limit, with_acceptance, with_promise, without_slot}
-use Rattle.paxos_model.specs.Learner.{Wish, learn, left_wishes, wish_of}
-use Rattle.paxos_model.specs.Majority.{is_marked, marked, most, no_marks}
-use Rattle.paxos_model.specs.Votes.{window_size}
-use Rattle.record_frame.specs.declared.values.Lengths.{Lengths}
-use Rattle.record_frame.specs.declared.values.Value.{Value}
-use Rattle.node_model.specs.Marks.{Running}
-use Rattle.node_model.specs.Messages.{decide_message, prepare_message}
+use Rattle.paxos_model.specs.Majority.{is_marked, marked}
 use Rattle.node_model.specs.Nodes.{before_orderers, letter, storage_nodes, to_learners, to_nodes, to_orderers}
-use Rattle.node_model.specs.NodeState.{NodeOutcome, NodeState, Ordering, node_outcome}
-use Rattle.node_model.specs.OrdererNode.{Change, Node, Orderer as OrdererMemory}
-use Rattle.node_model.specs.OrdererRow.{accepted_for, accepted_to, advanced_as, counted, decided_by, go_on, leader_after, learned, next_letters, on_accepted, on_promised, promised_to, quiet, told, with_leader}
 use Rattle.node_model.proofs.Letters.{all_append, to_nodes_all}
-use Rattle.quiet_model.specs.Deciding.{IsNextDecision}
-use Rattle.quiet_model.specs.Settled.{IsHeardCut, all_lengths}
-use Rattle.quiet_model.proofs.Decision.{Decision, Counts, Marked, Accepts_it, Is_asked, Learns, Knows, Is_told, Renews, Promised_it, Promises_it, Is_prepared, IsReady, In_window, Renewing, Stage, Proposed, Decided, AcceptTo, AcceptedFrom, AreVotingLetters, DecideTo, IsDecision, IsDone, IsLearner, IsProposing, IsVoter, IsVotingLetter, PrepareTo, PromisedFrom, ToLearner, ToOrderer, count_in, slot_of, values_of}
-use Rattle.quiet_model.proofs.Leading.{goes_on_as, marks_size, merges_none, renews, rests}
+use Rattle.quiet_model.proofs.Decision.{Decision, IsDecision, IsLearner, ToLearner, ToOrderer}
 use Rattle.quiet_model.proofs.Follows.{as_role}
 use Rattle.quiet_model.proofs.Moving.{replica_of}
-use Rattle.quiet_model.proofs.Outcomes.{orderer_takes}
-use Rattle.quiet_model.proofs.VoteTaken.{learn_once, longer}
 use Rattle.quiet_model.proofs.Waiting.{Waits, waits_left, waits_right}
 
 -- ---- marks
@@ -57,7 +32,7 @@ module _ (marks : List Bool) (j : ℕ) (h : j < length marks) where
 
 -- ---- letters to many
 
-module _ (d : Decision) (can : IsDecision d) where
+module _ (d : Decision) where
   node_waits : (P : Sent → Type 0) (message : Message) (node first count : ℕ) → P (letter node message) → first ≤ node → node < first + count → Waits P (to_nodes first count message)
   node_waits P message node first zero h low high = absurd (omega arith)
   node_waits P message node first (suc count) h low high =
@@ -77,6 +52,7 @@ module _ (d : Decision) (can : IsDecision d) where
       to_nodes_all P message (before_orderers d.config) d.config.orderers
       (λ node low high. h node (record { index = node - before_orderers d.config; below = omega arith; at = omega arith }))
 
+module _ (d : Decision) (can : IsDecision d) where
   -- a replica by its number
   storage_learner : (node : ℕ) → node < storage_nodes d.config → ToLearner d node
   storage_learner node h =
@@ -106,9 +82,9 @@ module _ (d : Decision) (can : IsDecision d) where
   to_each_learner P message (Storage s r) is learns h =
       waits_left P (to_nodes 0 (storage_nodes d.config) message ++ to_nodes (before_orderers d.config) 0 message) (to_nodes (orderer_node d.config 1) (d.config.orderers - 1) message)
       (waits_left P (to_nodes 0 (storage_nodes d.config) message) (to_nodes (before_orderers d.config) 0 message)
-      (node_waits P message (storage_node d.config s.0 r.0) 0 (storage_nodes d.config) h (omega arith) (let below = storage_node-lt d.config s.0 r.0 is.0 is.1 in omega arith)))
+      (node_waits d P message (storage_node d.config s.0 r.0) 0 (storage_nodes d.config) h (omega arith) (let below = storage_node-lt d.config s.0 r.0 is.0 is.1 in omega arith)))
   to_each_learner P message (Gatherer i) is learns h = absurd learns
   to_each_learner P message (Orderer zero) is learns h = absurd learns
   to_each_learner P message (Orderer (suc i)) is learns h =
       waits_right P (to_nodes 0 (storage_nodes d.config) message ++ to_nodes (before_orderers d.config) 0 message) (to_nodes (orderer_node d.config 1) (d.config.orderers - 1) message)
-      (node_waits P message (orderer_node d.config (suc i)) (orderer_node d.config 1) (d.config.orderers - 1) h (omega arith) (omega arith))
+      (node_waits d P message (orderer_node d.config (suc i)) (orderer_node d.config 1) (d.config.orderers - 1) h (omega arith) (omega arith))

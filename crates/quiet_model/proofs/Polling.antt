@@ -181,13 +181,13 @@ module _ (d : Decision) (can : IsDecision d) where
               (λ same. subst (IsVoting d other) (sym same) (voting other (before.nodes (node_of d.config other)) (settled.nodes other a)))
               (moves.others other a);
           letters = subst (AreVotingLetters d) (sym (moves.posted ∙ ap (λ (queue : List Sent). queue ++ made.outputs) settled.queue))
-              (each_orderer d can (IsVotingLetter d) (accept_message leader.ballot (length o.orderer.known) d.value) (λ n orderer. (orderer, l.owns, known_is, refl)));
+              (each_orderer d (IsVotingLetter d) (accept_message leader.ballot (length o.orderer.known) d.value) (λ n orderer. (orderer, l.owns, known_is, refl)));
           orderer = proposer;
           leads = ap (λ (state : NodeState). memory_in state) moves.here;
           stage = Proposed proposes
               (λ j b. Is_asked
               (subst (Waits (AcceptTo d j)) (sym (moves.posted ∙ ap (λ (queue : List Sent). queue ++ made.outputs) settled.queue))
-              (to_each d can (AcceptTo d j) (accept_message leader.ballot (length o.orderer.known) d.value) j b (refl, tt))));
+              (to_each d (AcceptTo d j) (accept_message leader.ballot (length o.orderer.known) d.value) j b (refl, tt))));
         };
         settled = λ i b past.
             ⊎_elim

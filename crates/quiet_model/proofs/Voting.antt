@@ -35,7 +35,7 @@ pub record Accepts (config : Shape) (i ballot slot : ℕ) (value : Value) (list 
   pub fine : IsAcceptor ballot (suc slot) (with_put list put)
 
 module _ (config : Shape) (ballot : ℕ) (owner : ballot % config.orderers ≡ 0) (i : ℕ) (list : List Payload) (o : OrdererMemory) where
-  owner_is : (message : Message) → to_owner config ballot message ≡ letter (orderer_node config 0) message ∷ []
+  pub owner_is : (message : Message) → to_owner config ballot message ≡ letter (orderer_node config 0) message ∷ []
   owner_is message = ap (λ (n : ℕ). letter (orderer_node config n) message ∷ []) owner
 
   module _ (slot : ℕ) (value : Value) (h : IsAcceptor ballot (suc slot) list) where
@@ -84,7 +84,7 @@ module _ (config : Shape) (ballot : ℕ) (owner : ballot % config.orderers ≡ 0
       ap (λ (b : Bool). keep (cond (b && (vote.slot.0 == slot)) (Some vote) None) (greatest (counts ballot slot) cast)) low
       ∙ none_counts slots slot cast h.1
 
-  none_reported : (slots : ℕ) (cast : List Vote) → AllByRecursion (IsOldVote ballot slots) cast → (slot count : ℕ) → reports ballot slot count cast ≡ []
+  pub none_reported : (slots : ℕ) (cast : List Vote) → AllByRecursion (IsOldVote ballot slots) cast → (slot count : ℕ) → reports ballot slot count cast ≡ []
   unfolding reports
   none_reported slots cast h slot zero = refl
   none_reported slots cast h slot (suc count) =

@@ -1,5 +1,5 @@
 -- A moment at which primaries may be ahead of their peers: each may hold one entry more at the end of its own list.
-use Rattle.std.specs.Prelude.{◌≡◌, ℕ, ◌<◌, List, [], ◌∷◌, ◌++◌, length, slice_set, ◌==◌, if◌then◌else◌}
+use Rattle.std.specs.Prelude.{◌≡◌, ℕ, ◌<◌, List, [], ◌∷◌, ◌++◌, slice_set, ◌==◌, if◌then◌else◌}
 use Rattle.log_base.specs.ClusterShape.{Shape}
 use Rattle.log_model.specs.Storage.{with_entry}
 use Rattle.node_table.specs.declared.role.Role.{Role}

@@ -9,6 +9,7 @@ ghost use Rattle.node_table.specs.Numbering.{gatherer_node, orderer_node};
 ghost use Rattle.quiet_model.specs.Ahead.{IsAhead};
 ghost use Rattle.quiet_model.specs.Deciding.{IsNextDecision, decided_on};
 ghost use Rattle.quiet_model.specs.Moments.{IsRound, IsSettling, Moment};
+ghost use Rattle.quiet_model.specs.Opening.{IsBeginning, IsOpening, at_first, no_lists};
 ghost use Rattle.quiet_model.specs.Settled.{Agreed, AreHeard, AreTold, IsSettled, ListsOf};
 
 /// Where primaries are ahead of their peers by one entry at most, a tick of all storage nodes and the
@@ -72,4 +73,14 @@ pub fn settling_settles()
         → IsNextDecision config agreed to value
         → IsSettling config before after
         → IsSettled config (decided_on agreed value) to after × AreHeard config to after }
+{}
+
+/// The opening makes nodes that are down, with empty disks, a settled cluster: orderer 0 leads, and no list
+/// and no value is known.
+pub fn opening_settles()
+    ensures { (config : Shape) (before after : Moment)
+        → InRange config
+        → IsBeginning config before
+        → IsOpening config before after
+        → IsSettled config (at_first config) (no_lists config) after }
 {}
