@@ -1,0 +1,39 @@
+-- How items go over moments: what an item's course says is due is done, one duty after another, up to its reply.
+use Rattle.std.specs.Prelude.{◌≡◌, ℕ, zero, suc, List, [], ◌∷◌}
+use Rattle.log_base.specs.ClusterShape.{Shape}
+use Rattle.command_frame.specs.declared.items.Item.{Item}
+use Rattle.reply_frame.specs.declared.replies.Reply.{Reply}
+use Rattle.history_frame.specs.declared.inputs.Input.TheVariants.{Call as ACall}
+use Rattle.history_frame.specs.declared.inputs.Mark.TheVariants.{Done}
+use Rattle.serial_schedule.specs.declared.courses.Course.{Course}
+use Rattle.serial_schedule.specs.declared.courses.Course.TheVariants.{Replies, GoesOn}
+use Rattle.serial_schedule.specs.declared.duties.Awaited.{Awaited}
+use Rattle.serial_schedule.specs.declared.duties.Duty.{Duty}
+use Rattle.serial_schedule.specs.declared.duties.Duty.TheVariants.{Give, DeliverAll, MakeCall}
+use Rattle.serial_schedule.specs.Courses.{beginning, course_of}
+use Rattle.serial_schedule.specs.Duties.{signal_input}
+use Rattle.serial_schedule.specs.Scheduling.{drawn}
+use Rattle.quiet_model.specs.Moments.{AreDelivered, Moment, TakeInTurn, Takes}
+
+-- Duties are done up to a call and its answer, no disk fails, and so it goes on.
+abbrev pub DoneThen : Shape → List Duty → (Awaited → Reply → Moment → Type 0) → Moment → Type 0
+DoneThen config [] goes_on before = ⊥
+DoneThen config (Give signal first count ∷ duties) goes_on before =
+    (next : Moment) × TakeInTurn config (signal_input signal) Done first.0 count before next × DoneThen config duties goes_on next
+DoneThen config (DeliverAll ∷ duties) goes_on before = (next : Moment) × AreDelivered config before next × DoneThen config duties goes_on next
+DoneThen config (MakeCall node call awaited ∷ duties) goes_on before =
+    (reply : Reply) × (next : Moment) × Takes config before node.0 (ACall call) Done reply next × goes_on awaited reply next
+
+-- A course goes from one moment to another, with so many calls at most, and ends with an answer.
+abbrev pub Goes : Shape → ℕ → Course → Moment → Reply → Moment → Type 0
+Goes config calls (Replies reply) before answer after = (answer ≡ reply) × (after ≡ before)
+Goes config zero (GoesOn duties) before answer after = ⊥
+Goes config (suc calls) (GoesOn duties) before answer after =
+    DoneThen config duties (λ awaited reply next. Goes config calls (course_of config awaited reply) next answer after) before
+
+-- Items go, one after another, each with so many calls at most.
+abbrev pub AllGo : Shape → ℕ → ℕ → List ℕ → List Item → Moment → List Reply → Moment → Type 0
+AllGo config run calls draws [] before answers after = (answers ≡ []) × (after ≡ before)
+AllGo config run calls draws (item ∷ items) before [] after = ⊥
+AllGo config run calls draws (item ∷ items) before (answer ∷ answers) after =
+    (next : Moment) × Goes config calls (beginning config run draws item) before answer next × AllGo config run calls (drawn item draws) items next answers after

@@ -1,0 +1,9 @@
+//! Quiet runs are answered as the log of one thread answers.
+//!
+//! `specs/Matching.antt` says when a settled moment is as the log has it, and `specs/Going.antt` how items go
+//! over moments. The functions do nothing: their contracts are the laws.
+#![tactic(auto)]
+
+mod deciding;
+
+pub use deciding::{entry_is_covered_next, wish_is_decided_next};
