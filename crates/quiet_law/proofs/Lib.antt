@@ -1,3 +1,12 @@
 pub mod Covering
 pub mod Segments
 pub mod Next
+pub mod Pairs
+pub mod Finding
+pub mod Answering
+pub mod Keeping
+pub mod Rounds
+pub mod Wishing
+pub mod Seeking
+pub mod Storing
+pub mod Items

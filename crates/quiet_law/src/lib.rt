@@ -4,6 +4,10 @@
 //! over moments. The functions do nothing: their contracts are the laws.
 #![tactic(auto)]
 
+mod answers;
 mod deciding;
 
+pub use answers::{
+    item_is_answered_as_in_the_log, opening_starts_the_log, run_is_answered_as_the_log,
+};
 pub use deciding::{entry_is_covered_next, wish_is_decided_next};

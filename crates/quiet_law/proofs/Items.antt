@@ -1,0 +1,130 @@
+-- Items over moments, one after another, are answered as the log of one thread answers them.
+use Rattle.std.proofs.Common.{◌≡◌, ◌<◌, ◌≤◌, ◌+◌, ◌*◌, ℕ, true, false, not, List, [], ◌∷◌, ◌++◌, length, length-append, replicate, Option, Some, None, refl, sym, ap, subst, ⊎_elim, arith, ◌∙◌}
+use Rattle.std.specs.List.{AllByRecursion}
+use Rattle.std.specs.Prelude.{slice_index, slice_set}
+use Rattle.std.proofs.lemmas.Bool.{cases_Bool, cond-false, cond-true, cond_both}
+use Rattle.reply_frame.specs.declared.replies.Reply.{Reply, NoSuchShard}
+use Rattle.log_base.specs.ClusterShape.{InRange, Shape}
+use Rattle.log_base.specs.declared.numbers.Shard.{Shard}
+use Rattle.log_model.specs.Chain.{Standing, Live, Frozen}
+use Rattle.log_model.specs.Lookup.{segment_index}
+use Rattle.record_frame.specs.declared.entries.Entry.{Entry}
+use Rattle.record_frame.specs.declared.values.Value.{Value}
+use Rattle.record_frame.specs.declared.values.Value.TheVariants.{Add as AddValue, Finalise as FinaliseValue, Trim as TrimValue}
+use Rattle.paxos_model.specs.Leader.{slot_limit}
+use Rattle.command_frame.specs.declared.items.Item.{Item}
+use Rattle.command_frame.specs.declared.items.Item.TheVariants.{Append, Read, Trim, Add, Finalise}
+use Rattle.command_frame.specs.Items.{IsItem}
+use Rattle.plain_log.specs.Coherent.{IsCoherentState}
+use Rattle.plain_log.specs.Log.{LogState, after, after_entry, drawn as drawn_state, knows, log_of, next_entry, replies_from, reply_to, standing_of, start, state_after, told_slot, with_value}
+use Rattle.plain_log.proofs.Coherent.{coherent_after}
+use Rattle.plain_log.proofs.Joining.{values_stay}
+use Rattle.plain_log.proofs.Lists.{replicate-nil}
+use Rattle.serial_schedule.specs.Courses.{beginning, client_of}
+use Rattle.serial_schedule.specs.Scheduling.{drawn}
+use Rattle.quiet_model.specs.Moments.{Moment}
+use Rattle.quiet_model.specs.Opening.{IsBeginning, IsOpening, no_lists}
+use Rattle.quiet_model.proofs.Beginning.{opened}
+use Rattle.quiet_law.specs.Going.{AllGo, Goes}
+use Rattle.quiet_law.specs.Matching.{IsInOrder, Matches}
+use Rattle.quiet_law.proofs.Keeping.{in_order_after, in_order_start}
+use Rattle.quiet_law.proofs.Seeking.{read_answered}
+use Rattle.quiet_law.proofs.Segments.{list_in-or}
+use Rattle.quiet_law.proofs.Storing.{append_answered}
+use Rattle.quiet_law.proofs.Wishing.{wish_answered, wish_refused}
+
+-- a value that joins is within the slots
+slot_left : (values : List Value) (value : Value) → length (values ++ value ∷ []) ≤ slot_limit → length values < slot_limit
+slot_left values value few = omega (arith, few, length-append values (value ∷ []))
+
+module _ (config : Shape) (range : InRange config) (run : ℕ) where
+  -- what an item leads to, and what it is answered
+  abbrev IsDone : LogState → Item → Moment → Reply → Type 0
+  IsDone state item later answer = Matches config (after config run state item) later × (answer ≡ reply_to config run state item)
+
+  finalised : (state : LogState) → IsInOrder config run state → (lane : ℕ) (shard : Shard) → IsItem config (Finalise lane shard)
+      → length (after config run state (Finalise lane shard)).values ≤ slot_limit
+      → (calls : ℕ) (before later : Moment) (answer : Reply) → Matches config state before
+      → Goes config calls (beginning config run state.draws (Finalise lane shard)) before answer later → IsDone state (Finalise lane shard) later answer
+  finalised state is lane shard item few calls before later answer matches goes =
+      let value : Value = FinaliseValue shard in
+      let known = knows config.replicas state shard.0 in
+      ⊎_elim
+      (λ there.
+      let next = cond-true known (with_value state value) state there in
+      let coherent = subst (IsCoherentState config) next (coherent_after config run state (Finalise lane shard) item is.coherent) in
+      let done = wish_answered config range state (client_of lane) value (ap not there) coherent
+      (slot_left state.values value (subst (λ (s : LogState). length s.values ≤ slot_limit) next few)) calls before later answer matches goes in
+      (subst (λ (s : LogState). Matches config s later) (sym next) done.0, done.1 ∙ sym (cond-true known (told_slot state) NoSuchShard there)))
+      (λ unknown.
+      let next = cond-false known (with_value state value) state unknown in
+      let done = wish_refused config range state (client_of lane) value (ap not unknown) calls before later answer matches goes in
+      (subst (λ (s : LogState). Matches config s later) (sym next) done.0, done.1 ∙ sym (cond-false known (told_slot state) NoSuchShard unknown)))
+      (cases_Bool known)
+
+  pub item_answered : (state : LogState) (item : Item) → IsInOrder config run state → IsItem config item → length (after config run state item).values ≤ slot_limit
+      → (calls : ℕ) (before later : Moment) (answer : Reply) → Matches config state before
+      → Goes config calls (beginning config run state.draws item) before answer later → IsDone state item later answer
+  item_answered state (Append lane shard replica bytes) is item few calls before later answer matches goes =
+      append_answered config range run state is lane shard replica bytes item few calls before later answer matches goes
+  item_answered state (Read lane shard replica position) is item few calls before later answer matches goes =
+      read_answered config state is.coherent (client_of lane) position replica item.2 shard.0 calls item.1 before later answer matches goes
+  item_answered state (Trim lane position) is item few calls before later answer matches goes =
+      wish_answered config range state (client_of lane) (TrimValue position) refl (coherent_after config run state (Trim lane position) item is.coherent)
+      (slot_left state.values (TrimValue position) few) calls before later answer matches goes
+  item_answered state (Add lane shard) is item few calls before later answer matches goes =
+      wish_answered config range state (client_of lane) (AddValue shard) refl (coherent_after config run state (Add lane shard) item is.coherent)
+      (slot_left state.values (AddValue shard) few) calls before later answer matches goes
+  item_answered state (Finalise lane shard) is item few calls before later answer matches goes =
+      finalised state is lane shard item few calls before later answer matches goes
+
+  -- ---- items, one after another
+
+  draws_entry : (replicas : ℕ) (state : LogState) (s j : ℕ) (entry : Entry) (standing : Option Standing) → (after_entry replicas state s j entry standing).draws ≡ state.draws
+  draws_entry replicas state s j entry None = refl
+  draws_entry replicas state s j entry (Some Frozen) = refl
+  draws_entry replicas state s j entry (Some Live) = refl
+
+  draws_after : (state : LogState) (item : Item) → drawn item state.draws ≡ (after config run state item).draws
+  draws_after state (Append lane shard replica bytes) =
+      sym (draws_entry config.replicas (drawn_state state lane) shard.0 replica.0 (next_entry run state lane bytes) (standing_of config.replicas state shard.0))
+  draws_after state (Read lane shard replica position) = refl
+  draws_after state (Trim lane position) = refl
+  draws_after state (Add lane shard) = refl
+  draws_after state (Finalise lane shard) =
+      cond_both (knows config.replicas state shard.0) (with_value state (FinaliseValue shard)) state (λ (s : LogState). state.draws ≡ s.draws) (λ _. refl) (λ _. refl)
+
+  pub items_answered : (calls : ℕ) (items : List Item) (state : LogState) → IsInOrder config run state → AllByRecursion (IsItem config) items
+      → length (state_after config run state items).values ≤ slot_limit
+      → (before later : Moment) (answers : List Reply) → Matches config state before → AllGo config run calls state.draws items before answers later
+      → Matches config (state_after config run state items) later × (answers ≡ replies_from config run state items)
+  items_answered calls [] state is all few before later answers matches goes = (subst (Matches config state) (sym goes.1) matches, goes.0)
+  items_answered calls (item ∷ items) state is all few before later [] matches goes = absurd goes
+  items_answered calls (item ∷ items) state is all few before later (answer ∷ answers) matches goes =
+      let next = after config run state item in
+      let stay = values_stay config run next items in
+      let few_now : length next.values ≤ slot_limit = omega (arith, few, ap (λ (values : List Value). length values) stay.1, length-append next.values stay.0) in
+      let first = item_answered state item is all.0 few_now calls before goes.0 answer matches goes.1 in
+      let rest = items_answered calls items next (in_order_after config run state item all.0 is) all.1 few goes.0 later answers first.0
+      (subst (λ (draws : List ℕ). AllGo config run calls draws items goes.0 answers later) (draws_after state item) goes.2) in
+      (rest.0, ap (λ (reply : Reply). reply ∷ answers) first.1 ∙ ap (λ (replies : List Reply). reply_to config run state item ∷ replies) rest.1)
+
+  -- the opening leads to the start of the log
+  pub opening_starts : (before later : Moment) → IsBeginning config before → IsOpening config before later → Matches config (start config) later
+  opening_starts before later begins opens = record {
+    ballot = config.orderers;
+    lists = no_lists config;
+    same = λ shard segment a b.
+        list_in-or (replicate config.replicas []) segment
+        ∙ replicate-nil config.replicas segment
+        ∙ sym (replicate-nil (config.shards * config.replicas) (segment_index config.replicas shard segment));
+    settled = let odd = range.odd in let some : 1 ≤ config.orderers = omega arith in opened config range some before later begins opens;
+  }
+
+  -- a whole run
+  pub run_answered : (calls : ℕ) (items : List Item) → AllByRecursion (IsItem config) items → length (state_after config run (start config) items).values ≤ slot_limit
+      → (before first later : Moment) (answers : List Reply) → IsBeginning config before → IsOpening config before first
+      → AllGo config run calls (start config).draws items first answers later
+      → Matches config (state_after config run (start config) items) later × (answers ≡ log_of config run items)
+  run_answered calls items all few before first later answers begins opens goes =
+      items_answered calls items (start config) (in_order_start config run) all few first later answers (opening_starts before first begins opens) goes
