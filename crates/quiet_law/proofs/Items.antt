@@ -94,19 +94,19 @@ module _ (config : Shape) (range : InRange config) (run : ℕ) where
   draws_after state (Finalise lane shard) =
       cond_both (knows config.replicas state shard.0) (with_value state (FinaliseValue shard)) state (λ (s : LogState). state.draws ≡ s.draws) (λ _. refl) (λ _. refl)
 
-  pub items_answered : (calls : ℕ) (items : List Item) (state : LogState) → IsInOrder config run state → AllByRecursion (IsItem config) items
+  pub items_answered : (items : List Item) (state : LogState) → IsInOrder config run state → AllByRecursion (IsItem config) items
       → length (state_after config run state items).values ≤ slot_limit
-      → (before later : Moment) (answers : List Reply) → Matches config state before → AllGo config run calls state.draws items before answers later
+      → (before later : Moment) (answers : List Reply) → Matches config state before → AllGo config run state.draws items before answers later
       → Matches config (state_after config run state items) later × (answers ≡ replies_from config run state items)
-  items_answered calls [] state is all few before later answers matches goes = (subst (Matches config state) (sym goes.1) matches, goes.0)
-  items_answered calls (item ∷ items) state is all few before later [] matches goes = absurd goes
-  items_answered calls (item ∷ items) state is all few before later (answer ∷ answers) matches goes =
+  items_answered [] state is all few before later answers matches goes = (subst (Matches config state) (sym goes.1) matches, goes.0)
+  items_answered (item ∷ items) state is all few before later [] matches goes = absurd goes
+  items_answered (item ∷ items) state is all few before later (answer ∷ answers) matches goes =
       let next = after config run state item in
       let stay = values_stay config run next items in
       let few_now : length next.values ≤ slot_limit = omega (arith, few, ap (λ (values : List Value). length values) stay.1, length-append next.values stay.0) in
-      let first = item_answered state item is all.0 few_now calls before goes.0 answer matches goes.1 in
-      let rest = items_answered calls items next (in_order_after config run state item all.0 is) all.1 few goes.0 later answers first.0
-      (subst (λ (draws : List ℕ). AllGo config run calls draws items goes.0 answers later) (draws_after state item) goes.2) in
+      let first = item_answered state item is all.0 few_now goes.0 before goes.1 answer matches goes.2 in
+      let rest = items_answered items next (in_order_after config run state item all.0 is) all.1 few goes.1 later answers first.0
+      (subst (λ (draws : List ℕ). AllGo config run draws items goes.1 answers later) (draws_after state item) goes.3) in
       (rest.0, ap (λ (reply : Reply). reply ∷ answers) first.1 ∙ ap (λ (replies : List Reply). reply_to config run state item ∷ replies) rest.1)
 
   -- the opening leads to the start of the log
@@ -122,9 +122,9 @@ module _ (config : Shape) (range : InRange config) (run : ℕ) where
   }
 
   -- a whole run
-  pub run_answered : (calls : ℕ) (items : List Item) → AllByRecursion (IsItem config) items → length (state_after config run (start config) items).values ≤ slot_limit
+  pub run_answered : (items : List Item) → AllByRecursion (IsItem config) items → length (state_after config run (start config) items).values ≤ slot_limit
       → (before first later : Moment) (answers : List Reply) → IsBeginning config before → IsOpening config before first
-      → AllGo config run calls (start config).draws items first answers later
+      → AllGo config run (start config).draws items first answers later
       → Matches config (state_after config run (start config) items) later × (answers ≡ log_of config run items)
-  run_answered calls items all few before first later answers begins opens goes =
-      items_answered calls items (start config) (in_order_start config run) all few first later answers (opening_starts before first begins opens) goes
+  run_answered items all few before first later answers begins opens goes =
+      items_answered items (start config) (in_order_start config run) all few first later answers (opening_starts before first begins opens) goes

@@ -10,3 +10,6 @@ pub mod Wishing
 pub mod Seeking
 pub mod Storing
 pub mod Items
+pub mod Playing
+pub mod Doing
+pub mod Driving

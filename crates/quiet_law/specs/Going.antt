@@ -31,9 +31,10 @@ Goes config zero (GoesOn duties) before answer after = ⊥
 Goes config (suc calls) (GoesOn duties) before answer after =
     DoneThen config duties (λ awaited reply next. Goes config calls (course_of config awaited reply) next answer after) before
 
--- Items go, one after another, each with so many calls at most.
-abbrev pub AllGo : Shape → ℕ → ℕ → List ℕ → List Item → Moment → List Reply → Moment → Type 0
-AllGo config run calls draws [] before answers after = (answers ≡ []) × (after ≡ before)
-AllGo config run calls draws (item ∷ items) before [] after = ⊥
-AllGo config run calls draws (item ∷ items) before (answer ∷ answers) after =
-    (next : Moment) × Goes config calls (beginning config run draws item) before answer next × AllGo config run calls (drawn item draws) items next answers after
+-- Items go, one after another.
+abbrev pub AllGo : Shape → ℕ → List ℕ → List Item → Moment → List Reply → Moment → Type 0
+AllGo config run draws [] before answers after = (answers ≡ []) × (after ≡ before)
+AllGo config run draws (item ∷ items) before [] after = ⊥
+AllGo config run draws (item ∷ items) before (answer ∷ answers) after =
+    (calls : ℕ) × (next : Moment) × Goes config calls (beginning config run draws item) before answer next
+    × AllGo config run (drawn item draws) items next answers after

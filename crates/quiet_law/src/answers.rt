@@ -45,12 +45,12 @@ pub fn item_is_answered_as_in_the_log()
 pub fn run_is_answered_as_the_log()
     ensures { (config : Shape)
         → InRange config
-        → (run calls : ℕ) (items : List Item)
+        → (run : ℕ) (items : List Item)
         → AllByRecursion (IsItem config) items
         → length (state_after config run (start config) items).values ≤ slot_limit
         → (before first later : Moment) (answers : List Reply)
         → IsBeginning config before
         → IsOpening config before first
-        → AllGo config run calls (start config).draws items first answers later
+        → AllGo config run (start config).draws items first answers later
         → Matches config (state_after config run (start config) items) later × (answers ≡ log_of config run items) }
 {}

@@ -6,8 +6,10 @@
 
 mod answers;
 mod deciding;
+mod runs;
 
 pub use answers::{
     item_is_answered_as_in_the_log, opening_starts_the_log, run_is_answered_as_the_log,
 };
 pub use deciding::{entry_is_covered_next, wish_is_decided_next};
+pub use runs::quiet_runs_are_answered_as_the_log;
