@@ -1,5 +1,5 @@
 -- The cut of lists that are covered covers nothing more, and one that raises a covered length covers something.
-use Rattle.std.proofs.Common.{◌≡◌, ◌≢◌, ◌⊎◌, ◌+◌, ◌*◌, ◌<◌, ◌≤◌, ℕ, true, false, Bool, ◌&&◌, ◌==◌, max, List, [], ◌∷◌, ◌++◌, length, length-append, Option, Some, None, refl, sym, ap, subst, inl, inr, ⊎_elim, arith, eq-eqb, ◌∙◌}
+use Rattle.std.proofs.Common.{◌≡◌, ◌≢◌, ◌⊎◌, ◌+◌, ◌*◌, ◌<◌, ◌≤◌, ℕ, true, false, ◌==◌, List, [], ◌∷◌, length, length-append, Option, Some, None, refl, sym, ap, subst, inl, inr, ⊎_elim, arith, eq-eqb, ◌∙◌}
 use Rattle.std.specs.Prelude.{slice_index, slice_index_or}
 use Rattle.std.specs.Option.{option_map}
 use Rattle.std.proofs.lemmas.Bool.{and_from, cases_Bool, cases_lt, cond-false, cond-true}
@@ -10,7 +10,7 @@ use Rattle.record_frame.specs.declared.entries.Entry.{Entry}
 use Rattle.record_frame.specs.declared.values.Lengths.{Lengths}
 use Rattle.record_frame.specs.declared.values.Value.{Value}
 use Rattle.record_frame.specs.declared.values.Value.TheVariants.{Cut}
-use Rattle.log_model.specs.Chain.{ChainState, ShardState, Standing, Live, Frozen, apply, chain_of, covered_by, covered_length, covered_of, cut_shard, is_added, raised, state_in}
+use Rattle.log_model.specs.Chain.{ChainState, ShardState, Standing, Live, Frozen, apply, chain_of, covered_by, covered_length, covered_of, cut_shard, is_added, raised}
 use Rattle.log_model.specs.Lookup.{segment_index}
 use Rattle.log_model.specs.Places.{is_in, places_from}
 use Rattle.log_model.proofs.Coverage.{cut_state, cut_state-shard}

@@ -1,5 +1,5 @@
 -- Duties of a run that is played: signals are taken in turn, letters are delivered, and a call is answered.
-use Rattle.std.proofs.Common.{◌≡◌, ◌≢◌, ◌+◌, ◌-◌, ◌<◌, ◌≤◌, ℕ, zero, suc, true, false, ◌==◌, List, [], ◌∷◌, ◌++◌, length, Option, Some, None, refl, sym, ap, subst, arith, ◌∙◌}
+use Rattle.std.proofs.Common.{◌≡◌, ◌+◌, ◌-◌, ◌≤◌, ℕ, zero, suc, List, [], ◌∷◌, ◌++◌, length, Some, None, refl, sym, ap, subst, arith, ◌∙◌}
 use Rattle.std.proofs.lemmas.Bool.{ne_eqb}
 use Rattle.log_base.specs.ClusterShape.{Shape}
 use Rattle.log_base.specs.declared.numbers.NodeId.{NodeId}
@@ -9,7 +9,6 @@ use Rattle.history_frame.specs.declared.events.Event.{Event}
 use Rattle.history_frame.specs.declared.inputs.Call.{Call}
 use Rattle.history_frame.specs.declared.inputs.Input.{Input}
 use Rattle.history_frame.specs.declared.inputs.Input.TheVariants.{Deliver, Call as ACall}
-use Rattle.history_frame.specs.declared.inputs.Mark.TheVariants.{Done}
 use Rattle.serial_schedule.specs.declared.duties.Awaited.{Awaited}
 use Rattle.serial_schedule.specs.declared.duties.Duty.{Duty}
 use Rattle.serial_schedule.specs.declared.duties.Duty.TheVariants.{Give, DeliverAll, MakeCall}
@@ -18,10 +17,10 @@ use Rattle.serial_schedule.specs.declared.duties.Signal.TheVariants.{Restart, Le
 use Rattle.serial_schedule.specs.Courses.{course_of}
 use Rattle.serial_schedule.specs.Duties.{give, signal_input}
 use Rattle.serial_schedule.specs.Scheduling.{Scheduled, Waiting, letters_from, ready, taken}
-use Rattle.quiet_model.specs.Moments.{AreDelivered, Moment, TakeInTurn, Takes}
+use Rattle.quiet_model.specs.Moments.{AreDelivered, Moment, TakeInTurn}
 use Rattle.quiet_law.specs.Going.{DoneThen}
 use Rattle.quiet_law.specs.Quiet.{quiet_mark}
-use Rattle.quiet_law.proofs.Playing.{Plays, Stepped, finally, is_ready, letters_in, moment_of, passes, same_end, same_plays, stepped, takes_as}
+use Rattle.quiet_law.proofs.Playing.{Plays, finally, is_ready, letters_in, moment_of, passes, same_end, same_plays, stepped, takes_as}
 
 -- a schedule at which no answer is awaited
 abbrev pub spot : Shape → ℕ → List Item → List ℕ → List Reply → List Duty → List Waiting → ℕ → Scheduled

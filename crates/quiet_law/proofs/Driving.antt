@@ -1,5 +1,5 @@
 -- A run that is played opens, and then its items go, one after another, to their replies.
-use Rattle.std.proofs.Common.{◌≡◌, ◌≢◌, ◌+◌, ◌*◌, ◌<◌, ◌≤◌, ℕ, zero, suc, true, false, ◌==◌, List, [], ◌∷◌, ◌++◌, length, replicate, Option, Some, None, refl, sym, ap, subst, append-nil, append_assoc, arith, ◌∙◌}
+use Rattle.std.proofs.Common.{◌≡◌, ◌+◌, ◌≤◌, ℕ, zero, suc, List, [], ◌∷◌, ◌++◌, length, replicate, refl, sym, ap, subst, append-nil, append_assoc, arith, ◌∙◌}
 use Rattle.std.specs.Prelude.{nat_lt}
 use Rattle.std.specs.List.{AllByRecursion}
 use Rattle.std.proofs.lemmas.Bool.{cond_both}
@@ -11,10 +11,7 @@ use Rattle.command_frame.specs.declared.items.Item.TheVariants.{Append, Read, Tr
 use Rattle.command_frame.specs.Items.{IsItem}
 use Rattle.reply_frame.specs.declared.replies.Reply.{Reply, Stored, Down, Elsewhere, Taken, NotLeading, NoLeader}
 use Rattle.history_frame.specs.declared.events.Event.{Event}
-use Rattle.history_frame.specs.declared.inputs.Input.TheVariants.{Lead as LeadInput, Restart as RestartInput}
-use Rattle.history_frame.specs.declared.inputs.Mark.TheVariants.{Done, OpenedWithout}
-use Rattle.node_table.specs.declared.role.Role.{Role}
-use Rattle.node_table.specs.Numbering.{IsRole, node_of, nodes_of, orderer_node}
+use Rattle.node_table.specs.Numbering.{node_of, nodes_of, orderer_node}
 use Rattle.node_table.proofs.Roles.{role_at-node_of}
 use Rattle.paxos_model.specs.Leader.{slot_limit}
 use Rattle.node_model.specs.Legal.{IsLegal}
@@ -26,17 +23,17 @@ use Rattle.serial_schedule.specs.declared.duties.Awaited.{Awaited}
 use Rattle.serial_schedule.specs.declared.duties.Awaited.TheVariants.{Storing, Requesting, Reading, Last}
 use Rattle.serial_schedule.specs.declared.duties.Duty.{Duty}
 use Rattle.serial_schedule.specs.declared.duties.Duty.TheVariants.{Give, DeliverAll, MakeCall}
-use Rattle.serial_schedule.specs.declared.duties.Signal.TheVariants.{Restart, Lead, Tick}
+use Rattle.serial_schedule.specs.declared.duties.Signal.TheVariants.{Restart, Lead}
 use Rattle.serial_schedule.specs.Courses.{beginning, course_of, reading_at, request, requested}
 use Rattle.serial_schedule.specs.Driven.{IsDriven, replies_of}
-use Rattle.serial_schedule.specs.Duties.{give, opening}
+use Rattle.serial_schedule.specs.Duties.{give}
 use Rattle.serial_schedule.proofs.Ready.{ready-begins}
-use Rattle.serial_schedule.specs.Scheduling.{Scheduled, Waiting, at_first, begun, drawn, next_turn, ready, taken}
-use Rattle.quiet_model.specs.Moments.{AreDelivered, Moment, TakeInTurn}
+use Rattle.serial_schedule.specs.Scheduling.{Scheduled, Waiting, at_first, drawn, ready, taken}
+use Rattle.quiet_model.specs.Moments.{Moment}
 use Rattle.quiet_model.specs.Opening.{IsBeginning, IsOpening, empty_disks}
 use Rattle.quiet_law.specs.Going.{AllGo, DoneThen, Goes}
 use Rattle.quiet_law.specs.Quiet.{IsQuiet}
-use Rattle.quiet_law.proofs.Doing.{Called, EndsInCall, IsCall, Left, calls, delivers, gives, spot}
+use Rattle.quiet_law.proofs.Doing.{EndsInCall, IsCall, calls, delivers, gives, spot}
 use Rattle.quiet_law.proofs.Items.{run_answered}
 use Rattle.quiet_law.proofs.Playing.{Plays, finally, moment_of, same_end, same_plays}
 

@@ -1,5 +1,5 @@
 -- What a replica answers to a read where its lists are the log's: what the log answers, or that another shard has the position.
-use Rattle.std.proofs.Common.{◌≡◌, ◌≢◌, ◌+◌, ◌<◌, ◌≤◌, ℕ, true, false, ◌==◌, List, [], length, Option, Some, None, refl, sym, ap, subst, ⊎_elim, arith, eq-eqb, ◌∙◌}
+use Rattle.std.proofs.Common.{◌≡◌, ◌≢◌, ◌<◌, ◌≤◌, ℕ, ◌==◌, List, [], length, Option, Some, None, refl, sym, ap, ⊎_elim, arith, eq-eqb, ◌∙◌}
 use Rattle.std.specs.Prelude.{nat_lt, option_and_then, slice_get, slice_index_or}
 use Rattle.std.proofs.lemmas.Bool.{cases_lt, cond-false, cond-true, le-ltb, lt-ltb, ne_eqb}
 use Rattle.std.proofs.lemmas.List.Elements.{Contains-get_or}
@@ -11,11 +11,10 @@ use Rattle.record_frame.specs.declared.entries.Entry.{Entry}
 use Rattle.log_model.specs.Chain.{chain_of}
 use Rattle.log_model.specs.Lookup.{entry_at_place, segment_index}
 use Rattle.log_model.specs.Places.{place_at}
-use Rattle.log_model.specs.Reading.{ReadAnswer, Elsewhere, Pending, Trimmed, read, read_entry, read_place}
+use Rattle.log_model.specs.Reading.{ReadAnswer, Elsewhere, Trimmed, read, read_entry, read_place}
 use Rattle.log_model.specs.Spelling.{spell}
 use Rattle.log_model.specs.Storage.{knowledge_of, list_in}
 use Rattle.log_model.proofs.Appending.{end-chain_of}
-use Rattle.log_model.proofs.Growth.{chain_of-IsChain}
 use Rattle.log_model.proofs.Spelled.{spelled_where_covered}
 use Rattle.reply_frame.specs.declared.replies.Reply.{Elsewhere as OtherShard, Found, Trimmed as GivenUp}
 use Rattle.node_model.specs.StorageNode.{member_of}

@@ -1,11 +1,10 @@
 -- What is so of each state of the log: it is so at the start, and each item keeps it.
-use Rattle.std.proofs.Common.{◌≡◌, ◌≢◌, ◌+◌, ◌*◌, ◌<◌, ◌≤◌, ℕ, zero, suc, List, [], ◌∷◌, ◌++◌, length, length-append, replicate, Option, Some, None, refl, sym, ap, subst, ⊎_elim, arith, ◌∙◌}
+use Rattle.std.proofs.Common.{◌≡◌, ◌+◌, ◌*◌, ◌<◌, ◌≤◌, ℕ, List, [], ◌∷◌, ◌++◌, length, length-append, Option, Some, None, sym, ap, subst, ⊎_elim, arith, ◌∙◌}
 use Rattle.std.specs.Prelude.{slice_index, slice_index_or, slice_set}
 use Rattle.std.specs.List.{AllByRecursion}
 use Rattle.std.proofs.lemmas.Bool.{cases_eq, cases_lt, cond_both}
 use Rattle.std.proofs.lemmas.List.{get_or-set_other, get_or-set_same, length-replicate, length-set, set_past}
 use Rattle.log_base.specs.ClusterShape.{Shape}
-use Rattle.log_base.specs.Draws.{number_of_draw}
 use Rattle.record_frame.specs.declared.entries.Entry.{Entry}
 use Rattle.log_model.specs.Chain.{Standing, Live, Frozen}
 use Rattle.log_model.specs.Lookup.{segment_index}
@@ -14,7 +13,6 @@ use Rattle.command_frame.specs.declared.items.Item.TheVariants.{Append, Read, Tr
 use Rattle.command_frame.specs.Items.{IsItem}
 use Rattle.record_frame.specs.declared.values.Value.{Value}
 use Rattle.record_frame.specs.declared.values.Value.TheVariants.{Cut, Add as AddValue, Finalise as FinaliseValue, Trim as TrimValue}
-use Rattle.plain_log.specs.Coherent.{IsCoherentState}
 use Rattle.plain_log.specs.Log.{LogState, after, after_entry, cut_of, drawn, entries_of, knows, next_entry, standing_of, start, stored, with_value}
 use Rattle.plain_log.proofs.Coherent.{coherent_after, coherent_start}
 use Rattle.plain_log.proofs.Lists.{replicate-nil}

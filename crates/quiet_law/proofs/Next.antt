@@ -1,6 +1,6 @@
 -- Which value is decided next: the cut of all lists where an entry was stored, else the one value that is wished.
-use Rattle.std.proofs.Common.{◌≡◌, ◌≢◌, ◌+◌, ◌*◌, ◌<◌, ◌≤◌, ℕ, true, false, Bool, not, ◌&&◌, List, [], ◌∷◌, ◌++◌, length, length-append, Option, Some, None, refl, sym, ap, subst, arith, ◌∙◌}
-use Rattle.std.specs.Prelude.{nat_le, slice_index_or}
+use Rattle.std.proofs.Common.{◌≡◌, ◌≢◌, ◌+◌, ◌<◌, ℕ, true, not, ◌&&◌, [], ◌∷◌, ◌++◌, length, length-append, Some, None, refl, ap, arith, ◌∙◌}
+use Rattle.std.specs.Prelude.{nat_le}
 use Rattle.std.proofs.lemmas.Bool.{and_from, cond-false, le-leb}
 use Rattle.std.proofs.lemmas.List.{get_or-set_same}
 use Rattle.std.proofs.lemmas.Nat.{mul-add-lt}
@@ -13,7 +13,6 @@ use Rattle.paxos_model.specs.Learner.{Wish, cut_wish, is_left, left_wishes, wish
 use Rattle.paxos_model.specs.Values.{same_value}
 use Rattle.paxos_model.proofs.Same.{same_value-refl}
 use Rattle.record_frame.specs.declared.entries.Entry.{Entry}
-use Rattle.record_frame.specs.declared.values.Lengths.{Lengths}
 use Rattle.record_frame.specs.declared.values.Value.{Value}
 use Rattle.record_frame.specs.declared.values.Value.TheVariants.{Cut}
 use Rattle.plain_log.specs.Coherent.{IsCoherentState}

@@ -1,14 +1,14 @@
 -- A pair whose number its client just drew: it is in no list, its submission is answered by the standing of the shard, and once it
 -- is stored and covered it is told its position.
-use Rattle.std.proofs.Common.{◌≡◌, ◌≢◌, ◌⊎◌, ◌+◌, ◌<◌, ◌≤◌, max, ℕ, suc, true, false, Bool, ◌&&◌, ◌==◌, List, [], ◌∷◌, ◌++◌, length, Option, Some, None, refl, sym, ap, inl, inr, ⊎_elim, arith, eq-eqb, eqb-true, cond, ◌∙◌}
+use Rattle.std.proofs.Common.{◌≡◌, ◌⊎◌, ◌+◌, ◌<◌, ◌≤◌, max, ℕ, suc, false, Bool, ◌&&◌, ◌==◌, List, [], ◌∷◌, ◌++◌, length, Option, Some, None, refl, ap, inl, inr, ⊎_elim, arith, eq-eqb, eqb-true, cond, ◌∙◌}
 use Rattle.std.specs.Prelude.{nat_le, nat_lt}
 use Rattle.std.specs.List.{AllByRecursion}
 use Rattle.std.proofs.lemmas.Bool.{and_from, and_left, and_parts, and_right, cases_Bool, cond-false, cond-true, le-leb, le-ltb, lt-leb, ne_eqb}
 use Rattle.record_frame.specs.declared.entries.Entry.{Entry}
 use Rattle.record_frame.specs.declared.values.Value.{Value}
-use Rattle.log_model.specs.Asking.{Asked, At, ask, ask_held, ask_stored}
+use Rattle.log_model.specs.Asking.{At, ask, ask_held, ask_stored}
 use Rattle.log_model.specs.Chain.{ShardState, Standing, Live, Frozen}
-use Rattle.log_model.specs.Pairs.{greater, held, is_below, is_pair, is_trimmed, last_of, later, offset_from, offset_of, untrimmed}
+use Rattle.log_model.specs.Pairs.{greater, held, is_below, is_pair, is_trimmed, last_of, later, offset_from, untrimmed}
 use Rattle.log_model.specs.Storage.{Knowledge, Member, covered_length_of, list_limit, own_shard, position_of}
 use Rattle.log_model.specs.Submitting.{Submission, Stored, Finalised, NotAdded, nothing_put, submit, submit_fresh, submit_held, submit_new, submit_to}
 use Rattle.paxos_model.specs.Learner.{find_from, find_value}

@@ -1,22 +1,21 @@
 -- A run as it is played: the events that are left follow the schedule to its end, each is a row of the rules, and no disk fails.
-use Rattle.std.proofs.Common.{◌≡◌, ◌≢◌, ◌+◌, ◌<◌, ◌≤◌, ℕ, zero, suc, true, false, ◌==◌, List, [], ◌∷◌, ◌++◌, map, length, Option, Some, None, refl, sym, ap, subst, ⊎_elim, arith, ◌∙◌}
+use Rattle.std.proofs.Common.{◌≡◌, ◌+◌, ℕ, suc, true, false, List, [], ◌∷◌, ◌++◌, map, length, Option, Some, None, refl, sym, ap, subst, arith, ◌∙◌}
 use Rattle.std.specs.List.{AllByRecursion}
 use Rattle.std.proofs.lemmas.Bool.{cond-true, ne_eqb}
 use Rattle.std.proofs.lemmas.List.{map-append}
 use Rattle.log_base.specs.ClusterShape.{Shape}
-use Rattle.command_frame.specs.declared.items.Item.{Item}
 use Rattle.reply_frame.specs.declared.replies.Reply.{Reply}
 use Rattle.history_frame.specs.declared.events.Event.{Event}
 use Rattle.history_frame.specs.declared.events.Sent.{Sent}
 use Rattle.history_frame.specs.declared.inputs.Input.{Input}
 use Rattle.history_frame.specs.declared.inputs.Mark.{Mark}
 use Rattle.node_model.specs.Legal.{AreNext, IsNext}
-use Rattle.node_model.specs.NodeState.{NodeOutcome, NodeState, node_after, node_outcome, state_or}
+use Rattle.node_model.specs.NodeState.{NodeOutcome, node_after, state_or}
 use Rattle.node_model.proofs.Following.{node_here, node_there}
 use Rattle.serial_schedule.specs.declared.duties.Duty.{Duty}
 use Rattle.serial_schedule.specs.declared.turns.Turn.{Turn}
 use Rattle.serial_schedule.specs.Driven.{Follow, after_event, after_events, turn_of}
-use Rattle.serial_schedule.specs.Scheduling.{Scheduled, Step, Waiting, due, first_step, given, is_done, letters_from, next_turn, noted, passed, ready, rest_in, step, turn_in}
+use Rattle.serial_schedule.specs.Scheduling.{Scheduled, Step, Waiting, due, first_step, is_done, letters_from, next_turn, noted, ready, rest_in, step, turn_in}
 use Rattle.serial_schedule.proofs.Along.{some_is}
 use Rattle.serial_schedule.proofs.Ready.{passed-stops, ready-due, ready-passed}
 use Rattle.quiet_model.specs.Moments.{Moment, Takes}

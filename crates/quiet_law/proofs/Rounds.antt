@@ -1,5 +1,5 @@
 -- The duties of settling, one after another, are the four rounds of settling.
-use Rattle.std.proofs.Common.{◌≡◌, List, [], ◌∷◌, ◌++◌}
+use Rattle.std.proofs.Common.{[], ◌∷◌, ◌++◌}
 use Rattle.log_base.specs.ClusterShape.{Shape}
 use Rattle.reply_frame.specs.declared.replies.Reply.{Reply}
 use Rattle.history_frame.specs.declared.inputs.Call.{Call}

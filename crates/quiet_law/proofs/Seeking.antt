@@ -1,12 +1,12 @@
 -- A read over moments: the replica that is asked answers, or tells the shard that has the position, and its replica answers.
-use Rattle.std.proofs.Common.{◌≡◌, ◌≢◌, ◌<◌, ◌≤◌, ℕ, zero, suc, true, List, [], ◌∷◌, length, Option, Some, None, refl, sym, ap, subst, ⊎_elim, ◌∙◌}
+use Rattle.std.proofs.Common.{◌≡◌, ◌<◌, ◌≤◌, ℕ, zero, suc, List, [], ◌∷◌, length, Option, Some, None, refl, sym, ap, subst, ⊎_elim, ◌∙◌}
 use Rattle.std.specs.Prelude.{nat_lt, slice_get}
 use Rattle.std.proofs.lemmas.Bool.{cases_eq, cond-true, cond_both, lt-ltb}
 use Rattle.reply_frame.specs.declared.replies.Reply.{Reply, Elsewhere, Found, PendingRead, Trimmed}
 use Rattle.history_frame.specs.declared.inputs.Call.TheVariants.{Read}
 use Rattle.history_frame.specs.declared.inputs.Input.TheVariants.{Call as ACall}
 use Rattle.history_frame.specs.declared.inputs.Mark.TheVariants.{Done}
-use Rattle.log_base.specs.ClusterShape.{InRange, Shape}
+use Rattle.log_base.specs.ClusterShape.{Shape}
 use Rattle.log_base.specs.declared.numbers.Client.{Client}
 use Rattle.log_base.specs.declared.numbers.Place.{Place}
 use Rattle.log_base.specs.declared.numbers.Position.{Position}

@@ -7,7 +7,7 @@ use Rattle.log_base.specs.ClusterShape.{InRange, Shape}
 use Rattle.log_model.specs.Lookup.{segment_index}
 use Rattle.log_model.specs.Storage.{list_in, report_of}
 use Rattle.record_frame.specs.declared.entries.Entry.{Entry}
-use Rattle.plain_log.specs.Log.{LogState, cut_of, entries_of}
+use Rattle.plain_log.specs.Log.{LogState, cut_of}
 use Rattle.quiet_model.specs.Settled.{AreLists, ListsOf, all_lengths, list_at, lists_from}
 use Rattle.quiet_model.proofs.Lists.{same_lists}
 use Rattle.quiet_model.proofs.Raising.{length-lists_from, list_in-lists_from}

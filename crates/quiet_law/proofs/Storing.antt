@@ -1,12 +1,12 @@
 -- An append over moments: where its shard is live its entry is stored, copied and covered, and told its position; else it is
 -- refused.
-use Rattle.std.proofs.Common.{◌≡◌, ◌≢◌, ◌<◌, ◌≤◌, ◌+◌, ◌*◌, ℕ, zero, suc, ◌==◌, List, [], ◌∷◌, ◌++◌, length, length-append, Option, Some, None, refl, sym, ap, subst, ⊎_elim, arith, eq-eqb, ◌∙◌}
+use Rattle.std.proofs.Common.{◌≡◌, ◌≢◌, ◌<◌, ◌≤◌, ◌*◌, ℕ, zero, suc, ◌==◌, List, [], ◌∷◌, ◌++◌, length, length-append, Option, Some, None, refl, sym, ap, subst, ⊎_elim, arith, eq-eqb, ◌∙◌}
 use Rattle.std.specs.List.{AllByRecursion}
-use Rattle.std.specs.Prelude.{slice_index, slice_index_or}
+use Rattle.std.specs.Prelude.{slice_index}
 use Rattle.std.proofs.lemmas.Bool.{cases_eq, cond-false, cond-true, ne_eqb}
 use Rattle.std.proofs.lemmas.List.{get_or-set_other, get_or-set_same}
 use Rattle.std.proofs.lemmas.Nat.{mul-add-lt, same_from_place}
-use Rattle.reply_frame.specs.declared.replies.Reply.{Reply, At as StandsAt, Finalised, NotAdded, Stored as StoredAt}
+use Rattle.reply_frame.specs.declared.replies.Reply.{Reply, At as StandsAt, Finalised, NotAdded}
 use Rattle.history_frame.specs.declared.inputs.Call.TheVariants.{Ask, Submit}
 use Rattle.log_base.specs.ClusterShape.{InRange, Shape}
 use Rattle.log_base.specs.Draws.{number_of_draw}
@@ -15,17 +15,16 @@ use Rattle.log_base.specs.declared.numbers.Number.{Number}
 use Rattle.log_base.specs.declared.numbers.Position.{Position}
 use Rattle.log_base.specs.declared.numbers.Replica.{Replica}
 use Rattle.log_base.specs.declared.numbers.Shard.{Shard}
-use Rattle.log_model.specs.Asking.{Asked, At, ask}
+use Rattle.log_model.specs.Asking.{Asked, ask}
 use Rattle.log_model.specs.Chain.{ChainState, Standing, Live, Frozen, chain_of}
 use Rattle.log_model.specs.Lookup.{position_of_place, segment_index}
 use Rattle.log_model.specs.Places.{place_at}
-use Rattle.log_model.specs.Storage.{Knowledge, knowledge_of, list_in, list_limit, with_entry}
+use Rattle.log_model.specs.Storage.{Knowledge, knowledge_of, list_in, with_entry}
 use Rattle.log_model.specs.Submitting.{Submission, Submitted, nothing_put, submit}
-use Rattle.log_model.specs.Submitting.{Finalised as SubmitFinalised, NotAdded as SubmitNotAdded, Stored}
+use Rattle.log_model.specs.Submitting.{Finalised as SubmitFinalised, NotAdded as SubmitNotAdded}
 use Rattle.log_model.proofs.Appending.{chain_of-append}
 use Rattle.log_model.proofs.Growth.{chain_of-IsChain}
 use Rattle.node_model.proofs.Lists.{list_in-other, list_in-same}
-use Rattle.command_frame.specs.declared.items.Item.{Item}
 use Rattle.command_frame.specs.declared.items.Item.TheVariants.{Append}
 use Rattle.command_frame.specs.Items.{IsItem}
 use Rattle.record_frame.specs.declared.entries.Entry.{Entry}
@@ -35,7 +34,7 @@ use Rattle.node_table.specs.Numbering.{storage_node}
 use Rattle.paxos_model.specs.Leader.{slot_limit}
 use Rattle.node_model.specs.StorageNode.{StorageNode, member_of}
 use Rattle.node_model.specs.StorageRow.{answered, ask_reply, call_row, on_ask, on_submit, submit_reply, submitted_as}
-use Rattle.plain_log.specs.Log.{LogState, after, after_entry, cut_of, drawn, entries_of, next_entry, reply_to, standing_of, stored}
+use Rattle.plain_log.specs.Log.{LogState, after, after_entry, cut_of, drawn, entries_of, reply_to, standing_of, stored}
 use Rattle.plain_log.proofs.Answering.{append_told, stored_position}
 use Rattle.serial_schedule.specs.declared.courses.Course.TheVariants.{GoesOn}
 use Rattle.serial_schedule.specs.declared.duties.Awaited.{Awaited}

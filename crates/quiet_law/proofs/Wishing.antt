@@ -1,5 +1,5 @@
 -- An addition, a finalisation and a trim over moments: what is requested is decided in the next slot, and told so.
-use Rattle.std.proofs.Common.{◌≡◌, ◌<◌, ◌≤◌, ℕ, zero, suc, true, false, List, [], ◌∷◌, ◌++◌, length, Option, Some, refl, sym, ap, subst, arith, ◌∙◌}
+use Rattle.std.proofs.Common.{◌≡◌, ◌<◌, ◌≤◌, ℕ, zero, suc, true, false, List, [], ◌∷◌, ◌++◌, length, Option, Some, sym, ap, subst, arith, ◌∙◌}
 use Rattle.std.proofs.lemmas.Bool.{cond-true}
 use Rattle.reply_frame.specs.declared.replies.Reply.{Reply, NoSuchShard, Settled as SettledAt}
 use Rattle.history_frame.specs.declared.inputs.Call.TheVariants.{Request, Settled}
@@ -13,7 +13,6 @@ use Rattle.node_model.specs.OrdererNode.{Node}
 use Rattle.node_model.specs.OrdererRow.{answered, call_row, finalises_unknown, request_to, settled_reply, on_request, on_settled}
 use Rattle.plain_log.specs.Coherent.{IsCoherentState}
 use Rattle.plain_log.specs.Log.{LogState, told_slot, with_value}
-use Rattle.serial_schedule.specs.declared.courses.Course.{Course}
 use Rattle.serial_schedule.specs.declared.courses.Course.TheVariants.{GoesOn}
 use Rattle.serial_schedule.specs.declared.duties.Awaited.{Awaited}
 use Rattle.serial_schedule.specs.declared.duties.Awaited.TheVariants.{Requesting, Last}
