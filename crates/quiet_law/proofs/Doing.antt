@@ -45,7 +45,7 @@ EndsInCall (Give Restart first count ∷ duties) = ⊥
 EndsInCall (DeliverAll ∷ duties) = EndsInCall duties
 EndsInCall (MakeCall node call awaited ∷ duties) = duties ≡ []
 
-module _ (config : Shape) (run : ℕ) (items : List Item) (draws : List ℕ) (replies : List Reply) where
+module _ (config : Shape) (run : ℕ) (whole : List Event) (items : List Item) (draws : List ℕ) (replies : List Reply) where
   abbrev here : List Duty → List Waiting → ℕ → Scheduled
   here duties queue place = spot config run items draws replies duties queue place
 
@@ -55,7 +55,7 @@ module _ (config : Shape) (run : ℕ) (items : List Item) (draws : List ℕ) (re
     pub place : ℕ
     pub before : List Event
     pub events : List Event
-    pub plays : Plays config run before events (here duties queue place)
+    pub plays : Plays config run whole before events (here duties queue place)
     pub ending : finally (here duties queue place) events ≡ ends
     pub few : length events ≤ most
     pub reached : Reached (moment_of config before queue)
@@ -76,14 +76,14 @@ module _ (config : Shape) (run : ℕ) (items : List Item) (draws : List ℕ) (re
   -- a duty that is done
   passed_on : (duty : Duty) (duties : List Duty) (queue : List Waiting) (place : ℕ) (before events : List Event) (P : Moment → Type 0)
       → ready (here (duty ∷ duties) queue place) ≡ ready (here duties queue place)
-      → Plays config run before events (here (duty ∷ duties) queue place) → P (moment_of config before queue)
+      → Plays config run whole before events (here (duty ∷ duties) queue place) → P (moment_of config before queue)
       → Left duties P (length events) (finally (here (duty ∷ duties) queue place) events)
   passed_on duty duties queue place before events P e plays reached = record {
     queue = queue;
     place = place;
     before = before;
     events = events;
-    plays = same_plays (here (duty ∷ duties) queue place) (here duties queue place) e config run before events plays;
+    plays = same_plays (here (duty ∷ duties) queue place) (here duties queue place) e config run whole before events plays;
     ending = same_end (here (duty ∷ duties) queue place) (here duties queue place) e events;
     few = omega arith;
     reached = reached;
@@ -92,7 +92,7 @@ module _ (config : Shape) (run : ℕ) (items : List Item) (draws : List ℕ) (re
   -- ---- signals
 
   pub gives : (signal : Signal) (count first : ℕ) (duties : List Duty) (queue : List Waiting) (place : ℕ) (before events : List Event)
-      → Plays config run before events (here (give signal first count ∷ duties) queue place)
+      → Plays config run whole before events (here (give signal first count ∷ duties) queue place)
       → Left duties (TakeInTurn config (signal_input signal) (quiet_mark (signal_input signal)) first count (moment_of config before queue)) (length events)
       (finally (here (give signal first count ∷ duties) queue place) events)
   gives signal zero first duties queue place before events plays =
@@ -102,7 +102,7 @@ module _ (config : Shape) (run : ℕ) (items : List Item) (draws : List ℕ) (re
       let input = signal_input signal in
       let s = here (give signal first (suc count) ∷ duties) queue place in
       let rest = here (give signal (first + 1) (suc count - 1) ∷ duties) queue place in
-      let one = stepped config run before events s first input rest
+      let one = stepped config run whole before events s first input rest
       (is_ready (here [] queue place) (give signal first (suc count)) duties (ne_eqb (suc count) 0 (λ e. absurd (omega arith)))) refl plays in
       let outs = letters_from place 0 one.event.happened.outputs in
       let next = first + 1 in
@@ -113,8 +113,8 @@ module _ (config : Shape) (run : ℕ) (items : List Item) (draws : List ℕ) (re
       ap (λ (n : ℕ). here (give signal (first + 1) n ∷ duties) (queue ++ outs) (place + 1)) fewer
       ∙ ap (λ (n : ℕ). here (give signal n count ∷ duties) (queue ++ outs) (place + 1)) more in
       let again = gives signal count (suc first) duties (queue ++ outs) (place + 1) (before ++ one.event ∷ []) one.later
-      (subst (Plays config run (before ++ one.event ∷ []) one.later) as_now one.plays) in
-      let takes = takes_as config run before events s first input rest queue place one in
+      (subst (Plays config run whole (before ++ one.event ∷ []) one.later) as_now one.plays) in
+      let takes = takes_as config run whole before events s first input rest queue place one in
       let least = one.fewer in
       subst (Left duties (TakeInTurn config input (quiet_mark input) first (suc count) (moment_of config before queue)) (length events))
       (ap (λ (x : Scheduled). finally x one.later) (sym as_now) ∙ one.ends)
@@ -126,26 +126,26 @@ module _ (config : Shape) (run : ℕ) (items : List Item) (draws : List ℕ) (re
   -- ---- letters
 
   pub delivers : (most : ℕ) (duties : List Duty) (queue : List Waiting) (place : ℕ) (before events : List Event) → length events ≤ most
-      → Plays config run before events (here (DeliverAll ∷ duties) queue place)
+      → Plays config run whole before events (here (DeliverAll ∷ duties) queue place)
       → Left duties (AreDelivered config (moment_of config before queue)) (length events) (finally (here (DeliverAll ∷ duties) queue place) events)
   delivers most duties [] place before events few plays =
       passed_on DeliverAll duties [] place before events (AreDelivered config (moment_of config before []))
       (passes (here [] [] place) DeliverAll duties refl) plays (record { count = 0; deliveries = refl; none_left = refl })
   delivers zero duties (letter ∷ queue) place before events few plays =
       let s = here (DeliverAll ∷ duties) (letter ∷ queue) place in
-      let one = stepped config run before events s letter.sent.to.0 (Deliver letter.place letter.index (Some letter.sent.message)) (here (DeliverAll ∷ duties) queue place)
+      let one = stepped config run whole before events s letter.sent.to.0 (Deliver letter.place letter.index (Some letter.sent.message)) (here (DeliverAll ∷ duties) queue place)
       (is_ready (here [] (letter ∷ queue) place) DeliverAll duties (ne_eqb (length (letter ∷ queue)) 0 (λ e. absurd (omega arith)))) refl plays in
       absurd (let least = one.fewer in omega arith)
   delivers (suc most) duties (letter ∷ queue) place before events few plays =
       let s = here (DeliverAll ∷ duties) (letter ∷ queue) place in
       let input : Input = Deliver letter.place letter.index (Some letter.sent.message) in
       let rest = here (DeliverAll ∷ duties) queue place in
-      let one = stepped config run before events s letter.sent.to.0 input rest
+      let one = stepped config run whole before events s letter.sent.to.0 input rest
       (is_ready (here [] (letter ∷ queue) place) DeliverAll duties (ne_eqb (length (letter ∷ queue)) 0 (λ e. absurd (omega arith)))) refl plays in
       let outs = letters_from place 0 one.event.happened.outputs in
       let least = one.fewer in
       let again = delivers most duties (queue ++ outs) (place + 1) (before ++ one.event ∷ []) one.later (omega arith) one.plays in
-      let takes = takes_as config run before events s letter.sent.to.0 input rest queue place one in
+      let takes = takes_as config run whole before events s letter.sent.to.0 input rest queue place one in
       let next = moment_of config (before ++ one.event ∷ []) (queue ++ outs) in
       subst (Left duties (AreDelivered config (moment_of config before (letter ∷ queue))) (length events)) one.ends
       (left_map duties (AreDelivered config next) (AreDelivered config (moment_of config before (letter ∷ queue))) (length one.later) (length events)
@@ -182,7 +182,7 @@ module _ (config : Shape) (run : ℕ) (items : List Item) (draws : List ℕ) (re
     pub before : List Event
     pub events : List Event
     pub done : DoneThen config duties (IsCall awaited reply (moment_of config before queue)) moment
-    pub plays : Plays config run before events (taken (here [] queue place) (course_of config awaited reply))
+    pub plays : Plays config run whole before events (taken (here [] queue place) (course_of config awaited reply))
     pub ending : finally (taken (here [] queue place) (course_of config awaited reply)) events ≡ ends
     pub few : suc (length events) ≤ most
 
@@ -204,12 +204,12 @@ module _ (config : Shape) (run : ℕ) (items : List Item) (draws : List ℕ) (re
   }
 
   makes_call : (node : NodeId) (call : Call) (awaited : Awaited) (queue : List Waiting) (place : ℕ) (before events : List Event)
-      → Plays config run before events (here (MakeCall node call awaited ∷ []) queue place)
+      → Plays config run whole before events (here (MakeCall node call awaited ∷ []) queue place)
       → Called (MakeCall node call awaited ∷ []) (moment_of config before queue) (length events) (finally (here (MakeCall node call awaited ∷ []) queue place) events)
   makes_call node call awaited queue place before events plays =
       let s = here (MakeCall node call awaited ∷ []) queue place in
       let rest : Scheduled = record s { duties = []; awaited = Some awaited } in
-      let one = stepped config run before events s node.0 (ACall call) rest (is_ready (here [] queue place) (MakeCall node call awaited) [] refl) refl plays in
+      let one = stepped config run whole before events s node.0 (ACall call) rest (is_ready (here [] queue place) (MakeCall node call awaited) [] refl) refl plays in
       let outs = letters_from place 0 one.event.happened.outputs in
       let least = one.fewer in
       record {
@@ -222,7 +222,7 @@ module _ (config : Shape) (run : ℕ) (items : List Item) (draws : List ℕ) (re
         done = (
           one.event.happened.reply,
           moment_of config (before ++ one.event ∷ []) (queue ++ outs),
-          takes_as config run before events s node.0 (ACall call) rest queue place one,
+          takes_as config run whole before events s node.0 (ACall call) rest queue place one,
           (refl, refl, refl),
         );
         plays = one.plays;
@@ -231,7 +231,7 @@ module _ (config : Shape) (run : ℕ) (items : List Item) (draws : List ℕ) (re
       }
 
   pub calls : (duties : List Duty) → EndsInCall duties → (queue : List Waiting) (place : ℕ) (before events : List Event)
-      → Plays config run before events (here duties queue place)
+      → Plays config run whole before events (here duties queue place)
       → Called duties (moment_of config before queue) (length events) (finally (here duties queue place) events)
   calls [] is queue place before events plays = absurd is
   calls (Give Restart first count ∷ duties) is queue place before events plays = absurd is
@@ -254,6 +254,6 @@ module _ (config : Shape) (run : ℕ) (items : List Item) (draws : List ℕ) (re
       (subst (Called duties (moment_of config left.before left.queue) (length left.events)) left.ending more)
   calls (MakeCall node call awaited ∷ duties) is queue place before events plays =
       subst
-      (λ (rest : List Duty). Plays config run before events (here (MakeCall node call awaited ∷ rest) queue place)
+      (λ (rest : List Duty). Plays config run whole before events (here (MakeCall node call awaited ∷ rest) queue place)
       → Called (MakeCall node call awaited ∷ rest) (moment_of config before queue) (length events) (finally (here (MakeCall node call awaited ∷ rest) queue place) events))
       (sym is) (makes_call node call awaited queue place before events) plays

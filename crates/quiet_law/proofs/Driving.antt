@@ -1,4 +1,4 @@
--- A run that is played opens, and then its items go, one after another, to their replies.
+-- The course of an item in a run that is played goes on, call by call, to its reply.
 use Rattle.std.proofs.Common.{◌≡◌, ◌+◌, ◌≤◌, ℕ, zero, suc, List, [], ◌∷◌, ◌++◌, length, replicate, refl, sym, ap, subst, append-nil, append_assoc, arith, ◌∙◌}
 use Rattle.std.specs.Prelude.{nat_lt}
 use Rattle.std.specs.List.{AllByRecursion}
@@ -39,7 +39,7 @@ use Rattle.quiet_law.proofs.Playing.{Plays, finally, moment_of, same_end, same_p
 
 -- ---- courses
 
-abbrev IsCalling : Course → Type 0
+abbrev pub IsCalling : Course → Type 0
 IsCalling (Replies reply) = Unit {0}
 IsCalling (GoesOn duties) = EndsInCall duties
 
@@ -58,7 +58,7 @@ module _ (config : Shape) where
       cond_both (nat_lt shard.0 config.shards) (GoesOn (reading_at config shard.0 replica client position Last ∷ [])) (Replies (Elsewhere shard)) IsCalling (λ _. refl) (λ _. tt)
   course_calls _ _ = tt
 
-  beginning_calls : (run : ℕ) (draws : List ℕ) (item : Item) → IsCalling (beginning config run draws item)
+  pub beginning_calls : (run : ℕ) (draws : List ℕ) (item : Item) → IsCalling (beginning config run draws item)
   beginning_calls run draws (Append lane shard replica bytes) = refl
   beginning_calls run draws (Read lane shard replica position) = refl
   beginning_calls run draws (Trim lane position) = refl
@@ -73,23 +73,23 @@ module _ (config : Shape) where
   done_map (DeliverAll ∷ duties) K L goes moment done = (done.0, done.1, done_map duties K L goes done.0 done.2)
   done_map (MakeCall node call awaited ∷ duties) K L goes moment done = (done.0, done.1, done.2, goes awaited done.0 done.1 done.3)
 
-  module _ (run : ℕ) (items : List Item) (draws : List ℕ) where
+  module _ (run : ℕ) (whole : List Event) (items : List Item) (draws : List ℕ) where
     -- ---- an item
 
     -- a course that ends with an answer
-    record Answered (replies : List Reply) (course : Course) (moment : Moment) (ends : List Reply) : Type 0 where
-      calls : ℕ
-      answer : Reply
-      queue : List Waiting
-      place : ℕ
-      before : List Event
-      events : List Event
-      goes : Goes config calls course moment answer (moment_of config before queue)
-      plays : Plays config run before events (spot config run items draws (replies ++ answer ∷ []) [] queue place)
-      ending : finally (spot config run items draws (replies ++ answer ∷ []) [] queue place) events ≡ ends
+    pub record Answered (replies : List Reply) (course : Course) (moment : Moment) (ends : List Reply) : Type 0 where
+      pub calls : ℕ
+      pub answer : Reply
+      pub queue : List Waiting
+      pub place : ℕ
+      pub before : List Event
+      pub events : List Event
+      pub goes : Goes config calls course moment answer (moment_of config before queue)
+      pub plays : Plays config run whole before events (spot config run items draws (replies ++ answer ∷ []) [] queue place)
+      pub ending : finally (spot config run items draws (replies ++ answer ∷ []) [] queue place) events ≡ ends
 
-    course_played : (most : ℕ) (replies : List Reply) (course : Course) → IsCalling course → (queue : List Waiting) (place : ℕ) (before events : List Event) → length events ≤ most
-        → Plays config run before events (taken (spot config run items draws replies [] queue place) course)
+    pub course_played : (most : ℕ) (replies : List Reply) (course : Course) → IsCalling course → (queue : List Waiting) (place : ℕ) (before events : List Event) → length events ≤ most
+        → Plays config run whole before events (taken (spot config run items draws replies [] queue place) course)
         → Answered replies course (moment_of config before queue) (finally (taken (spot config run items draws replies [] queue place) course) events)
     course_played most replies (Replies reply) is queue place before events few plays = record {
       calls = 0;
@@ -105,12 +105,12 @@ module _ (config : Shape) where
     course_played zero replies (GoesOn duties) is queue place before events few plays =
         let same : spot config run items draws replies (duties ++ []) queue place ≡ spot config run items draws replies duties queue place =
         ap (λ (left : List Duty). spot config run items draws replies left queue place) (append-nil duties) in
-        let one = calls config run items draws replies duties is queue place before events (subst (Plays config run before events) same plays) in
+        let one = calls config run whole items draws replies duties is queue place before events (subst (Plays config run whole before events) same plays) in
         absurd (let less = one.few in omega arith)
     course_played (suc most) replies (GoesOn duties) is queue place before events few plays =
         let same : spot config run items draws replies (duties ++ []) queue place ≡ spot config run items draws replies duties queue place =
         ap (λ (left : List Duty). spot config run items draws replies left queue place) (append-nil duties) in
-        let one = calls config run items draws replies duties is queue place before events (subst (Plays config run before events) same plays) in
+        let one = calls config run whole items draws replies duties is queue place before events (subst (Plays config run whole before events) same plays) in
         let less = one.few in
         let next = course_of config one.awaited one.reply in
         let then = course_played most replies next (course_calls one.awaited one.reply) one.queue one.place one.before one.events (omega arith) one.plays in
@@ -122,7 +122,7 @@ module _ (config : Shape) where
           place = then.place;
           before = then.before;
           events = then.events;
-          goes = done_map duties (IsCall config run items draws replies one.awaited one.reply (moment_of config one.before one.queue))
+          goes = done_map duties (IsCall config run whole items draws replies one.awaited one.reply (moment_of config one.before one.queue))
               (λ awaited reply moment. Goes config then.calls (course_of config awaited reply) moment then.answer after)
               (λ awaited reply moment e.
               subst (λ (a : Awaited). Goes config then.calls (course_of config a reply) moment then.answer after) (sym e.0)
@@ -132,65 +132,3 @@ module _ (config : Shape) where
           plays = then.plays;
           ending = then.ending ∙ one.ending ∙ ap (λ (s : Scheduled). finally s events) (sym same);
         }
-
-  -- ---- all items
-
-  record AllAnswered (run : ℕ) (items : List Item) (draws : List ℕ) (replies : List Reply) (moment : Moment) (ends : List Reply) : Type 0 where
-    answers : List Reply
-    after : Moment
-    goes : AllGo config run draws items moment answers after
-    ending : ends ≡ replies ++ answers
-
-  items_played : (run : ℕ) (items : List Item) (draws : List ℕ) (replies : List Reply) (queue : List Waiting) (place : ℕ) (before events : List Event)
-      → Plays config run before events (spot config run items draws replies [] queue place)
-      → AllAnswered run items draws replies (moment_of config before queue) (finally (spot config run items draws replies [] queue place) events)
-  items_played run [] draws replies queue place before [] plays = record {
-    answers = [];
-    after = moment_of config before queue;
-    goes = (refl, refl);
-    ending = sym (append-nil replies);
-  }
-  items_played run [] draws replies queue place before (event ∷ events) plays =
-      absurd (let none = plays.follow.0 in cc)
-  items_played run (item ∷ items) draws replies queue place before events plays =
-      let s = spot config run (item ∷ items) draws replies [] queue place in
-      let course = beginning config run draws item in
-      let begins = taken (spot config run items (drawn item draws) replies [] queue place) course in
-      let same : ready s ≡ ready begins = sym (ready-begins s (item ∷ items) refl refl refl) in
-      let one = course_played run items (drawn item draws) (length events) replies course (beginning_calls run draws item) queue place before events (omega arith)
-      (same_plays s begins same config run before events plays) in
-      let rest = items_played run items (drawn item draws) (replies ++ one.answer ∷ []) one.queue one.place one.before one.events one.plays in
-      record {
-        answers = one.answer ∷ rest.answers;
-        after = rest.after;
-        goes = (one.calls, moment_of config one.before one.queue, one.goes, rest.goes);
-        ending = sym (same_end s begins same events) ∙ sym one.ending ∙ rest.ending ∙ append_assoc replies (one.answer ∷ []) rest.answers;
-      }
-
-  -- ---- the opening
-
-  begins_down : IsBeginning config (moment_of config [] [])
-  begins_down = record {
-    nodes = λ role is. ap (begun_as config empty_disks (node_of config role)) (role_at-node_of config role is);
-    queue = refl;
-  }
-
-  -- a whole run
-  pub driven_answered : InRange config → (run : ℕ) (items : List Item) (events : List Event) → AllByRecursion (IsItem config) items
-      → IsLegal config run empty_disks events → IsDriven config run items events → AllByRecursion IsQuiet events
-      → length (state_after config run (start config) items).values ≤ slot_limit
-      → replies_of config run items events ≡ log_of config run items
-  driven_answered range run items events all legal driven quiet few =
-      let draws : List ℕ = replicate 64 0 in
-      let plays : Plays config run [] events (at_first config run items) = record { follow = driven.followed; over = driven.over; next = legal.follow; quiet = quiet } in
-      let restarted = gives config run items draws [] Restart (nodes_of config) 0 (give Lead (orderer_node config 0) 1 ∷ DeliverAll ∷ []) [] 0 [] events plays in
-      let led = gives config run items draws [] Lead 1 (orderer_node config 0) (DeliverAll ∷ []) restarted.queue restarted.place restarted.before restarted.events restarted.plays in
-      let opened = delivers config run items draws [] (length led.events) [] led.queue led.place led.before led.events (omega arith) led.plays in
-      let opens : IsOpening config (moment_of config [] []) (moment_of config opened.before opened.queue) = record {
-        started = moment_of config restarted.before restarted.queue;
-        restarts = restarted.reached;
-        lead = record { middle = moment_of config led.before led.queue; turns = led.reached; deliveries = opened.reached };
-      } in
-      let done = items_played run items draws [] opened.queue opened.place opened.before opened.events opened.plays in
-      let answered = run_answered config range run items all few (moment_of config [] []) (moment_of config opened.before opened.queue) done.after done.answers begins_down opens done.goes in
-      sym (opened.ending ∙ led.ending ∙ restarted.ending) ∙ done.ending ∙ answered.1

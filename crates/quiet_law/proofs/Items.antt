@@ -33,7 +33,7 @@ use Rattle.quiet_law.proofs.Storing.{append_answered}
 use Rattle.quiet_law.proofs.Wishing.{wish_answered, wish_refused}
 
 -- a value that joins is within the slots
-slot_left : (values : List Value) (value : Value) → length (values ++ value ∷ []) ≤ slot_limit → length values < slot_limit
+pub slot_left : (values : List Value) (value : Value) → length (values ++ value ∷ []) ≤ slot_limit → length values < slot_limit
 slot_left values value few = omega (arith, few, length-append values (value ∷ []))
 
 module _ (config : Shape) (range : InRange config) (run : ℕ) where
@@ -84,7 +84,7 @@ module _ (config : Shape) (range : InRange config) (run : ℕ) where
   draws_entry replicas state s j entry (Some Frozen) = refl
   draws_entry replicas state s j entry (Some Live) = refl
 
-  draws_after : (state : LogState) (item : Item) → drawn item state.draws ≡ (after config run state item).draws
+  pub draws_after : (state : LogState) (item : Item) → drawn item state.draws ≡ (after config run state item).draws
   draws_after state (Append lane shard replica bytes) =
       sym (draws_entry config.replicas (drawn_state state lane) shard.0 replica.0 (next_entry run state lane bytes) (standing_of config.replicas state shard.0))
   draws_after state (Read lane shard replica position) = refl

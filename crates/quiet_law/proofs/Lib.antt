@@ -13,3 +13,4 @@ pub mod Items
 pub mod Playing
 pub mod Doing
 pub mod Driving
+pub mod Ending

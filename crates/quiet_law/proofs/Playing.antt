@@ -1,5 +1,5 @@
 -- A run as it is played: the events that are left follow the schedule to its end, each is a row of the rules, and no disk fails.
-use Rattle.std.proofs.Common.{◌≡◌, ◌+◌, ℕ, suc, true, false, List, [], ◌∷◌, ◌++◌, map, length, Option, Some, None, refl, sym, ap, subst, arith, ◌∙◌}
+use Rattle.std.proofs.Common.{◌≡◌, ◌+◌, ℕ, suc, true, false, List, [], ◌∷◌, ◌++◌, map, length, Option, Some, None, refl, sym, ap, subst, arith, append_assoc, ◌∙◌}
 use Rattle.std.specs.List.{AllByRecursion}
 use Rattle.std.proofs.lemmas.Bool.{cond-true, ne_eqb}
 use Rattle.std.proofs.lemmas.List.{map-append}
@@ -30,7 +30,8 @@ letters_in queue = map (λ (waiting : Waiting). waiting.sent) queue
 abbrev pub moment_of : Shape → List Event → List Waiting → Moment
 moment_of config before queue = record { nodes = node_after config empty_disks before; queue = letters_in queue }
 
-pub record Plays (config : Shape) (run : ℕ) (before events : List Event) (s : Scheduled) : Type 0 where
+pub record Plays (config : Shape) (run : ℕ) (whole before events : List Event) (s : Scheduled) : Type 0 where
+  pub parts : before ++ events ≡ whole
   pub follow : Follow s events
   pub over : next_turn (after_events s events) ≡ None
   pub next : AreNext config run empty_disks before events
@@ -61,8 +62,9 @@ module _ (s t : Scheduled) (e : ready s ≡ ready t) where
   same_end [] = ap (λ (r : Scheduled). r.replies) (sym e)
   same_end (event ∷ events) = ap (λ (x : Scheduled). finally x events) (sym (same_after event))
 
-  pub same_plays : (config : Shape) (run : ℕ) (before events : List Event) → Plays config run before events s → Plays config run before events t
-  same_plays config run before events h = record {
+  pub same_plays : (config : Shape) (run : ℕ) (whole before events : List Event) → Plays config run whole before events s → Plays config run whole before events t
+  same_plays config run whole before events h = record {
+    parts = h.parts;
     follow = same_follow events h.follow;
     over = same_over events h.over;
     next = h.next;
@@ -86,7 +88,7 @@ is_ready s duty duties undone =
 
 -- ---- one event
 
-pub record Stepped (config : Shape) (run : ℕ) (before events : List Event) (s : Scheduled) (node : ℕ) (input : Input) (rest : Scheduled) : Type 0 where
+pub record Stepped (config : Shape) (run : ℕ) (whole before events : List Event) (s : Scheduled) (node : ℕ) (input : Input) (rest : Scheduled) : Type 0 where
   pub event : Event
   pub later : List Event
   pub fewer : length events ≡ suc (length later)
@@ -94,18 +96,18 @@ pub record Stepped (config : Shape) (run : ℕ) (before events : List Event) (s 
   pub takes : event.happened.input ≡ input
   pub mark : event.happened.mark ≡ quiet_mark input
   pub next : IsNext config run empty_disks before event
-  pub plays : Plays config run (before ++ event ∷ []) later (noted rest event.happened.outputs event.happened.reply)
+  pub plays : Plays config run whole (before ++ event ∷ []) later (noted rest event.happened.outputs event.happened.reply)
   pub ends : finally (noted rest event.happened.outputs event.happened.reply) later ≡ finally s events
 
-pub stepped : (config : Shape) (run : ℕ) (before events : List Event) (s : Scheduled) (node : ℕ) (input : Input) (rest : Scheduled)
-    → ready s ≡ s → first_step s s.duties ≡ Some (step node input rest) → Plays config run before events s
-    → Stepped config run before events s node input rest
-stepped config run before [] s node input rest is first h =
+pub stepped : (config : Shape) (run : ℕ) (whole before events : List Event) (s : Scheduled) (node : ℕ) (input : Input) (rest : Scheduled)
+    → ready s ≡ s → first_step s s.duties ≡ Some (step node input rest) → Plays config run whole before events s
+    → Stepped config run whole before events s node input rest
+stepped config run whole before [] s node input rest is first h =
     let turn : next_turn s ≡ Some (record { node = record { 0 = node }; input = input }) =
     ap (λ (r : Scheduled). turn_in (first_step r r.duties)) is ∙ ap turn_in first in
     let none : next_turn s ≡ None = h.over in
     absurd (let wrong = sym turn ∙ none in cc)
-stepped config run before (event ∷ later) s node input rest is first h =
+stepped config run whole before (event ∷ later) s node input rest is first h =
     let turn : next_turn s ≡ Some (record { node = record { 0 = node }; input = input }) =
     ap (λ (r : Scheduled). turn_in (first_step r r.duties)) is ∙ ap turn_in first in
     let same : turn_of event ≡ record { node = record { 0 = node }; input = input } = some_is (sym h.follow.0 ∙ turn) in
@@ -122,6 +124,7 @@ stepped config run before (event ∷ later) s node input rest is first h =
       mark = h.quiet.0 ∙ ap quiet_mark input_is;
       next = h.next.0;
       plays = record {
+        parts = append_assoc before (event ∷ []) later ∙ h.parts;
         follow = subst (λ (x : Scheduled). Follow x later) after h.follow.1;
         over = subst (λ (x : Scheduled). next_turn (after_events x later) ≡ None) after h.over;
         next = h.next.1;
@@ -152,11 +155,11 @@ took config run before event queue place next = record {
       ∙ ap (λ (outputs : List Sent). letters_in queue ++ outputs) (letters_out place 0 event.happened.outputs ∙ next.row.outputs);
 }
 
-pub takes_as : (config : Shape) (run : ℕ) (before events : List Event) (s : Scheduled) (node : ℕ) (input : Input) (rest : Scheduled) (queue : List Waiting) (place : ℕ)
-    → (stepped : Stepped config run before events s node input rest)
+pub takes_as : (config : Shape) (run : ℕ) (whole before events : List Event) (s : Scheduled) (node : ℕ) (input : Input) (rest : Scheduled) (queue : List Waiting) (place : ℕ)
+    → (stepped : Stepped config run whole before events s node input rest)
     → Takes config (moment_of config before queue) node input (quiet_mark input) stepped.event.happened.reply
     (moment_of config (before ++ stepped.event ∷ []) (queue ++ letters_from place 0 stepped.event.happened.outputs))
-takes_as config run before events s node input rest queue place h =
+takes_as config run whole before events s node input rest queue place h =
     let event = h.event in
     let after = moment_of config (before ++ event ∷ []) (queue ++ letters_from place 0 event.happened.outputs) in
     let now = moment_of config before queue in

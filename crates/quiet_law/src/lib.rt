@@ -12,4 +12,4 @@ pub use answers::{
     item_is_answered_as_in_the_log, opening_starts_the_log, run_is_answered_as_the_log,
 };
 pub use deciding::{entry_is_covered_next, wish_is_decided_next};
-pub use runs::quiet_runs_are_answered_as_the_log;
+pub use runs::{quiet_runs_are_answered_as_the_log, quiet_runs_end_as_the_log};

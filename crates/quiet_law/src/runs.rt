@@ -1,29 +1,37 @@
-//! Quiet runs are answered as the log of one thread answers. The function does nothing: its contract is the
+//! Quiet runs are answered as the log of one thread answers. Each function does nothing: its contract is the
 //! law.
 
 ghost use Rattle.std.specs.Prelude.{◌≡◌, ◌≤◌, ℕ, List, length};
-ghost use Rattle.std.specs.List.{AllByRecursion};
-ghost use Rattle.log_base.specs.ClusterShape.{InRange, Shape};
+ghost use Rattle.log_base.specs.ClusterShape.{Shape};
 ghost use Rattle.paxos_model.specs.Leader.{slot_limit};
 ghost use Rattle.command_frame.specs.declared.items.Item.{Item};
-ghost use Rattle.command_frame.specs.Items.{IsItem};
 ghost use Rattle.history_frame.specs.declared.events.Event.{Event};
-ghost use Rattle.node_model.specs.Legal.{IsLegal};
 ghost use Rattle.plain_log.specs.Log.{log_of, start, state_after};
-ghost use Rattle.serial_schedule.specs.Driven.{IsDriven, replies_of};
-ghost use Rattle.quiet_model.specs.Opening.{empty_disks};
-ghost use Rattle.quiet_law.specs.Quiet.{IsQuiet};
+ghost use Rattle.serial_schedule.specs.Driven.{replies_of};
+ghost use Rattle.quiet_law.specs.Matching.{Matches};
+ghost use Rattle.quiet_law.specs.Quiet.{HasSlots, IsQuietRun, moment_after};
 
-/// A legal history over empty disks that is driven by items, and in which no disk fails, gives them the replies
-/// of the log of one thread, while there are slots for the values of the log.
+/// A quiet run over empty disks gives its items the replies of the log of one thread. There are to be slots
+/// for all values of the log, or at each moment of the run one for the next value.
 pub fn quiet_runs_are_answered_as_the_log()
-    ensures { (config : Shape)
-        → InRange config
-        → (run : ℕ) (items : List Item) (events : List Event)
-        → AllByRecursion (IsItem config) items
-        → IsLegal config run empty_disks events
-        → IsDriven config run items events
-        → AllByRecursion IsQuiet events
+    ensures few { (config : Shape) (run : ℕ) (items : List Item) (events : List Event)
+        → IsQuietRun config run items events
         → length (state_after config run (start config) items).values ≤ slot_limit
         → replies_of config run items events ≡ log_of config run items }
+    ensures slots { (config : Shape) (run : ℕ) (items : List Item) (events : List Event)
+        → IsQuietRun config run items events
+        → HasSlots config events
+        → replies_of config run items events ≡ log_of config run items }
+{}
+
+/// At its end every replica holds the lists of the log, and every node knows the values of the log.
+pub fn quiet_runs_end_as_the_log()
+    ensures few { (config : Shape) (run : ℕ) (items : List Item) (events : List Event)
+        → IsQuietRun config run items events
+        → length (state_after config run (start config) items).values ≤ slot_limit
+        → Matches config (state_after config run (start config) items) (moment_after config events) }
+    ensures slots { (config : Shape) (run : ℕ) (items : List Item) (events : List Event)
+        → IsQuietRun config run items events
+        → HasSlots config events
+        → Matches config (state_after config run (start config) items) (moment_after config events) }
 {}

@@ -1,5 +1,9 @@
-use Rattle.quiet_law.proofs.Driving.{driven_answered}
+use Rattle.std.proofs.Common.{inl, inr}
+use Rattle.quiet_law.proofs.Ending.{run_ended}
 use Rattle.quiet_law.proofs.runs.quiet_runs_are_answered_as_the_log.Goals as goal
 
-pub returns : goal.returns
-returns c = driven_answered
+pub returns-clause-few : goal.returns-clause-few
+returns-clause-few c = λ config run items events h few. (run_ended config h.legal.config_in_range run items events h (inl few)).0
+
+pub returns-clause-slots : goal.returns-clause-slots
+returns-clause-slots c = λ config run items events h slots. (run_ended config h.legal.config_in_range run items events h (inr slots)).0
