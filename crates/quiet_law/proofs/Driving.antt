@@ -1,41 +1,26 @@
 -- The course of an item in a run that is played goes on, call by call, to its reply.
-use Rattle.std.proofs.Common.{◌≡◌, ◌+◌, ◌≤◌, ℕ, zero, suc, List, [], ◌∷◌, ◌++◌, length, replicate, refl, sym, ap, subst, append-nil, append_assoc, arith, ◌∙◌}
+use Rattle.std.proofs.Common.{◌≡◌, ◌+◌, ◌≤◌, ℕ, zero, suc, List, [], ◌∷◌, ◌++◌, length, refl, sym, ap, subst, append-nil, arith, ◌∙◌}
 use Rattle.std.specs.Prelude.{nat_lt}
-use Rattle.std.specs.List.{AllByRecursion}
 use Rattle.std.proofs.lemmas.Bool.{cond_both}
-use Rattle.log_base.specs.ClusterShape.{InRange, Shape}
+use Rattle.log_base.specs.ClusterShape.{Shape}
 use Rattle.log_base.specs.declared.numbers.Client.{Client}
 use Rattle.record_frame.specs.declared.values.Value.{Value}
 use Rattle.command_frame.specs.declared.items.Item.{Item}
 use Rattle.command_frame.specs.declared.items.Item.TheVariants.{Append, Read, Trim, Add, Finalise}
-use Rattle.command_frame.specs.Items.{IsItem}
 use Rattle.reply_frame.specs.declared.replies.Reply.{Reply, Stored, Down, Elsewhere, Taken, NotLeading, NoLeader}
 use Rattle.history_frame.specs.declared.events.Event.{Event}
-use Rattle.node_table.specs.Numbering.{node_of, nodes_of, orderer_node}
-use Rattle.node_table.proofs.Roles.{role_at-node_of}
-use Rattle.paxos_model.specs.Leader.{slot_limit}
-use Rattle.node_model.specs.Legal.{IsLegal}
-use Rattle.node_model.specs.NodeState.{begun_as}
-use Rattle.plain_log.specs.Log.{log_of, start, state_after}
 use Rattle.serial_schedule.specs.declared.courses.Course.{Course}
 use Rattle.serial_schedule.specs.declared.courses.Course.TheVariants.{Replies, GoesOn}
 use Rattle.serial_schedule.specs.declared.duties.Awaited.{Awaited}
 use Rattle.serial_schedule.specs.declared.duties.Awaited.TheVariants.{Storing, Requesting, Reading, Last}
 use Rattle.serial_schedule.specs.declared.duties.Duty.{Duty}
 use Rattle.serial_schedule.specs.declared.duties.Duty.TheVariants.{Give, DeliverAll, MakeCall}
-use Rattle.serial_schedule.specs.declared.duties.Signal.TheVariants.{Restart, Lead}
 use Rattle.serial_schedule.specs.Courses.{beginning, course_of, reading_at, request, requested}
-use Rattle.serial_schedule.specs.Driven.{IsDriven, replies_of}
-use Rattle.serial_schedule.specs.Duties.{give}
-use Rattle.serial_schedule.proofs.Ready.{ready-begins}
-use Rattle.serial_schedule.specs.Scheduling.{Scheduled, Waiting, at_first, drawn, ready, taken}
+use Rattle.serial_schedule.specs.Scheduling.{Scheduled, Waiting, taken}
 use Rattle.quiet_model.specs.Moments.{Moment}
-use Rattle.quiet_model.specs.Opening.{IsBeginning, IsOpening, empty_disks}
-use Rattle.quiet_law.specs.Going.{AllGo, DoneThen, Goes}
-use Rattle.quiet_law.specs.Quiet.{IsQuiet}
-use Rattle.quiet_law.proofs.Doing.{EndsInCall, IsCall, calls, delivers, gives, spot}
-use Rattle.quiet_law.proofs.Items.{run_answered}
-use Rattle.quiet_law.proofs.Playing.{Plays, finally, moment_of, same_end, same_plays}
+use Rattle.quiet_law.specs.Going.{DoneThen, Goes}
+use Rattle.quiet_law.proofs.Doing.{EndsInCall, IsCall, calls, spot}
+use Rattle.quiet_law.proofs.Playing.{Plays, finally, moment_of}
 
 -- ---- courses
 

@@ -1,6 +1,6 @@
 -- A run that is played opens, and then its items go, one after another, to the replies of the log, and its last moment is as the
 -- log has it then.
-use Rattle.std.proofs.Common.{◌≡◌, ◌⊎◌, ◌+◌, ◌<◌, ◌≤◌, ℕ, List, [], ◌∷◌, ◌++◌, length, length-append, replicate, take, Option, Some, None, refl, sym, ap, subst, inl, inr, ⊎_elim, append-nil, append_assoc, arith, ◌∙◌}
+use Rattle.std.proofs.Common.{◌≡◌, ◌⊎◌, ◌+◌, ◌<◌, ◌≤◌, ℕ, List, [], ◌∷◌, ◌++◌, length, length-append, replicate, take, Option, Some, None, refl, sym, ap, subst, inl, inr, append-nil, append_assoc, arith, ◌∙◌}
 use Rattle.std.specs.List.{AllByRecursion}
 use Rattle.std.proofs.lemmas.Bool.{cond_both}
 use Rattle.std.proofs.lemmas.List.{take-append-le}
@@ -15,14 +15,13 @@ use Rattle.command_frame.specs.Items.{IsItem}
 use Rattle.reply_frame.specs.declared.replies.Reply.{Reply}
 use Rattle.history_frame.specs.declared.events.Event.{Event}
 use Rattle.history_frame.specs.declared.events.Sent.{Sent}
-use Rattle.node_table.specs.declared.role.Role.{Role}
 use Rattle.node_table.specs.declared.role.Role.TheVariants.{Orderer}
 use Rattle.node_table.specs.Numbering.{node_of, nodes_of, orderer_node}
 use Rattle.node_table.proofs.Roles.{role_at-node_of}
 use Rattle.paxos_model.specs.Leader.{slot_limit}
 use Rattle.node_model.specs.NodeState.{NodeState, Storing, Gathering, Ordering, begun_as, node_after}
 use Rattle.node_model.specs.OrdererNode.{Mode, known_of}
-use Rattle.plain_log.specs.Log.{LogState, after, after_entry, cut_of, drawn as drawn_state, knows, log_of, next_entry, replies_from, reply_to, standing_of, start, state_after, stored, with_value}
+use Rattle.plain_log.specs.Log.{LogState, after, after_entry, cut_of, drawn as drawn_state, knows, log_of, next_entry, replies_from, standing_of, start, state_after, stored, with_value}
 use Rattle.plain_log.proofs.Joining.{values_stay}
 use Rattle.serial_schedule.specs.declared.duties.Duty.TheVariants.{DeliverAll}
 use Rattle.serial_schedule.specs.declared.duties.Signal.TheVariants.{Lead, Restart}
@@ -31,7 +30,6 @@ use Rattle.serial_schedule.specs.Driven.{replies_of}
 use Rattle.serial_schedule.specs.Duties.{give}
 use Rattle.serial_schedule.specs.Scheduling.{Waiting, at_first, drawn, ready, taken}
 use Rattle.serial_schedule.proofs.Ready.{ready-begins}
-use Rattle.quiet_model.specs.Moments.{Moment}
 use Rattle.quiet_model.specs.Opening.{IsBeginning, IsOpening, empty_disks}
 use Rattle.quiet_model.specs.Settled.{ListsOf}
 use Rattle.quiet_model.proofs.Gathering.{IsSettledNode}
