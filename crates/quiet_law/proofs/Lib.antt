@@ -14,3 +14,4 @@ pub mod Playing
 pub mod Doing
 pub mod Driving
 pub mod Ending
+pub mod Marking

@@ -7,7 +7,7 @@ use Rattle.history_frame.specs.declared.events.Event.{Event}
 use Rattle.history_frame.specs.declared.inputs.Input.{Input}
 use Rattle.history_frame.specs.declared.inputs.Input.TheVariants.{Deliver, Call, Tick, Lead, Stop, Restart}
 use Rattle.history_frame.specs.declared.inputs.Mark.{Mark}
-use Rattle.history_frame.specs.declared.inputs.Mark.TheVariants.{Done, OpenedWithout}
+use Rattle.history_frame.specs.declared.inputs.Mark.TheVariants.{Done, Halted, OpenedWith, OpenedWithout, StayedDown}
 use Rattle.log_base.specs.ClusterShape.{Shape}
 use Rattle.node_table.specs.Numbering.{orderer_node}
 use Rattle.paxos_model.specs.Leader.{slot_limit}
@@ -26,6 +26,14 @@ quiet_mark Tick = Done
 quiet_mark Lead = Done
 quiet_mark Stop = Done
 quiet_mark Restart = OpenedWithout
+
+-- a mark that tells neither of a disk that failed nor of a payload that was in flight
+abbrev pub TellsNoFailure : Mark → Type 0
+TellsNoFailure Done = Unit {0}
+TellsNoFailure OpenedWithout = Unit {0}
+TellsNoFailure Halted = ⊥
+TellsNoFailure OpenedWith = ⊥
+TellsNoFailure StayedDown = ⊥
 
 abbrev pub IsQuiet : Event → Type 0
 IsQuiet event = event.happened.mark ≡ quiet_mark event.happened.input
