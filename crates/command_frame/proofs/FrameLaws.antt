@@ -7,7 +7,7 @@ use Rattle.log_base.specs.ClusterShape.{Shape, InRange}
 use Rattle.log_base.specs.Wide.{IsBytes, be2, be4, number4}
 use Rattle.log_base.proofs.Wide.{length-be4, length-be8, number4-be4, be4-number4, IsBytes-drop}
 use Rattle.command_frame.specs.declared.items.Item.{Item}
-use Rattle.command_frame.specs.declared.items.Item.TheVariants.{Append, Read, Trim, Add, Finalise}
+use Rattle.command_frame.specs.declared.items.Item.TheVariants.{Append, Read, Trim, Add, Finalise, Ask}
 use Rattle.reply_frame.specs.Frames.{frame}
 use Rattle.command_frame.specs.Items.{item_kind, item_body, item_spelling, IsItem}
 use Rattle.reply_frame.proofs.FrameLaws.{frame-behind, frame-number, one_frame}
@@ -24,6 +24,7 @@ length-item_body c (Read lane shard replica position) is = omega (arith, length-
 length-item_body c (Trim lane position) is = omega (arith, length-be8 position.0)
 length-item_body c (Add lane shard) is = omega arith
 length-item_body c (Finalise lane shard) is = omega arith
+length-item_body c (Ask lane) is = omega arith
 
 record Begins (bytes : List ℕ) (item : Item) (rest : List ℕ) : Type 0 where
   number : number4 bytes 0 ≡ length (item_body item) + 1

@@ -7,9 +7,9 @@ use Rattle.log_base.specs.ClusterShape.{Shape, InRange}
 use Rattle.log_base.specs.Wide.{IsBytes, be2, be8, number2, number8}
 use Rattle.log_base.proofs.Wide.{length-be8, number2-be2, number8-be8, be2-number2, be8-number8, number8-lt, IsBytes-drop}
 use Rattle.command_frame.specs.declared.items.Item.{Item}
-use Rattle.command_frame.specs.declared.items.Item.TheVariants.{Append, Read, Trim, Add, Finalise}
+use Rattle.command_frame.specs.declared.items.Item.TheVariants.{Append, Read, Trim, Add, Finalise, Ask}
 use Rattle.command_frame.specs.Items.{item_kind, item_body, IsItem, Spells}
-use Rattle.command_frame.specs.Reading.{names_shard, names_replica, append_of, read_of, trim_of, add_of, finalise_of, item_of}
+use Rattle.command_frame.specs.Reading.{names_shard, names_replica, append_of, read_of, trim_of, add_of, finalise_of, ask_of, item_of}
 
 -- ---- what is read is spelled so
 
@@ -35,6 +35,11 @@ nine_front : (body : List ℕ) → IsBytes body → length body ≡ 9 → body �
 nine_front [] h l = absurd (omega arith)
 nine_front (a ∷ rest) h l =
     ap (λ (eight : List ℕ). a ∷ eight) (sym (be8-number8 (a ∷ rest) 1 h (omega arith) ∙ take_all 8 rest (omega arith)))
+
+one_front : (body : List ℕ) → length body ≡ 1 → body ≡ get_or body 0 0 ∷ []
+one_front [] l = absurd (omega arith)
+one_front (a ∷ []) l = refl
+one_front (a ∷ b ∷ rest) l = absurd (omega arith)
 
 append_takes : (c : Shape) (body : List ℕ) (item : Item) → IsBytes body → append_of c body ≡ Some item → Spells c 1 body item
 unfolding append_of
@@ -103,6 +108,17 @@ finalise_takes c body item h e =
       is_item = (ltb-true _ 64 lane.0, ltb-true _ _ lane.1);
     })
 
+ask_takes : (c : Shape) (body : List ℕ) (item : Item) → ask_of body ≡ Some item → Spells c 7 body item
+unfolding ask_of
+ask_takes c body item e =
+    let found = cond_some (eqb (length body) 1 && ltb (get_or body 0 0) 64) _ _ e in
+    let long = and_parts (eqb (length body) 1) _ found.0 in
+    subst (Spells c 7 body) found.1 (record {
+      of_kind = refl;
+      with_body = one_front body (eqb-true _ 1 long.0);
+      is_item = ltb-true _ 64 long.1;
+    })
+
 -- one kind of several: what it reads is spelled so, and what the others read is
 one_kind : (c : Shape) (kind known : ℕ) (body : List ℕ) (item : Item) (read others : Option Item) → (read ≡ Some item → Spells c known body item)
     → (others ≡ Some item → Spells c kind body item) → cond (eqb kind known) read others ≡ Some item → Spells c kind body item
@@ -119,7 +135,8 @@ item_takes c kind body item h =
     (one_kind c kind 2 body item (read_of c body) _ (read_takes c body item h)
     (one_kind c kind 4 body item (trim_of body) _ (trim_takes c body item h)
     (one_kind c kind 5 body item (add_of c body) _ (add_takes c body item h)
-    (one_kind c kind 6 body item (finalise_of c body) _ (finalise_takes c body item h) (λ e. cc)))))
+    (one_kind c kind 6 body item (finalise_of c body) _ (finalise_takes c body item h)
+    (one_kind c kind 7 body item (ask_of body) _ (ask_takes c body item) (λ e. cc))))))
 
 -- ---- what is spelled is read again
 
@@ -206,6 +223,10 @@ finalise_again c lane shard range l s =
     let named = names_shard_again c lane shard [] range l s in
     finalise_found c (lane ∷ be2 shard) refl named.1 ∙ ap (λ (n : ℕ). Some (Finalise lane (record { 0 = n }))) named.0
 
+ask_again : (lane : ℕ) → lane < 64 → ask_of (lane ∷ []) ≡ Some (Ask lane)
+unfolding ask_of
+ask_again lane l = cond-true (eqb 1 1 && ltb lane 64) _ _ (and_from _ _ (eq-eqb 1 1 refl) (lt-ltb lane 64 l))
+
 pub item_again : (c : Shape) (item : Item) → InRange c → IsItem c item → item_of c (item_kind item) (item_body item) ≡ Some item
 unfolding item_of
 item_again c (Append lane shard replica bytes) range is = append_again c lane shard.0 replica.0 bytes range is.0 is.1 is.2 is.3
@@ -213,3 +234,4 @@ item_again c (Read lane shard replica position) range is = read_again c lane sha
 item_again c (Trim lane position) range is = trim_again lane position.0 is.0 is.1
 item_again c (Add lane shard) range is = add_again c lane shard.0 range is.0 is.1
 item_again c (Finalise lane shard) range is = finalise_again c lane shard.0 range is.0 is.1
+item_again c (Ask lane) range is = ask_again lane is

@@ -1,9 +1,9 @@
 -- What an item is, how it is spelled, and how many items there may be.
-use Rattle.std.specs.Prelude.{◌≡◌, ℕ, ◌+◌, ◌<◌, ◌≤◌, ◌^◌, List, ◌∷◌, ◌++◌, length, nat_lt, if◌then◌else◌, Option, Some, None}
+use Rattle.std.specs.Prelude.{◌≡◌, ℕ, ◌+◌, ◌<◌, ◌≤◌, ◌^◌, List, [], ◌∷◌, ◌++◌, length, nat_lt, if◌then◌else◌, Option, Some, None}
 use Rattle.log_base.specs.ClusterShape.{Shape}
 use Rattle.log_base.specs.Wide.{IsBytes, be2, be8}
 use Rattle.command_frame.specs.declared.items.Item.{Item}
-use Rattle.command_frame.specs.declared.items.Item.TheVariants.{Append, Read, Trim, Add, Finalise}
+use Rattle.command_frame.specs.declared.items.Item.TheVariants.{Append, Read, Trim, Add, Finalise, Ask}
 use Rattle.reply_frame.specs.Frames.{frame}
 
 -- the kind of an item's frame, and its body
@@ -13,6 +13,7 @@ item_kind (Read lane shard replica position) = 2
 item_kind (Trim lane position) = 4
 item_kind (Add lane shard) = 5
 item_kind (Finalise lane shard) = 6
+item_kind (Ask lane) = 7
 
 abbrev pub item_body : Item → List ℕ
 item_body (Append lane shard replica bytes) = lane ∷ be2 shard.0 ++ replica.0 ∷ bytes
@@ -20,6 +21,7 @@ item_body (Read lane shard replica position) = lane ∷ be2 shard.0 ++ replica.0
 item_body (Trim lane position) = lane ∷ be8 position.0
 item_body (Add lane shard) = lane ∷ be2 shard.0
 item_body (Finalise lane shard) = lane ∷ be2 shard.0
+item_body (Ask lane) = lane ∷ []
 
 -- the one spelling of an item
 abbrev pub item_spelling : Item → List ℕ
@@ -35,6 +37,7 @@ IsItem shape (Read lane shard replica position) =
 IsItem shape (Trim lane position) = (lane < 64) × (position.0 < 2 ^ 64)
 IsItem shape (Add lane shard) = (lane < 64) × (shard.0 < shape.shards)
 IsItem shape (Finalise lane shard) = (lane < 64) × (shard.0 < shape.shards)
+IsItem shape (Ask lane) = lane < 64
 
 -- a kind and a body spell an item of a config
 pub record Spells (shape : Shape) (kind : ℕ) (body : List ℕ) (item : Item) : Type 0 where
@@ -57,6 +60,7 @@ record_bytes_of (Read lane shard replica position) = 0
 record_bytes_of (Trim lane position) = 0
 record_bytes_of (Add lane shard) = 0
 record_bytes_of (Finalise lane shard) = 0
+record_bytes_of (Ask lane) = 0
 
 -- the counts with one more item
 abbrev pub counted : Counts → Item → Counts

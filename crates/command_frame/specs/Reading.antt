@@ -3,7 +3,7 @@ use Rattle.std.specs.Prelude.{ℕ, Bool, List, length, drop, slice_index, nat_lt
 use Rattle.log_base.specs.ClusterShape.{Shape}
 use Rattle.log_base.specs.Wide.{number2, number8}
 use Rattle.command_frame.specs.declared.items.Item.{Item}
-use Rattle.command_frame.specs.declared.items.Item.TheVariants.{Append, Read, Trim, Add, Finalise}
+use Rattle.command_frame.specs.declared.items.Item.TheVariants.{Append, Read, Trim, Add, Finalise, Ask}
 
 -- the body's lane is one of 64, and its shard is one of the config
 abbrev pub names_shard : Shape → List ℕ → Bool
@@ -48,6 +48,13 @@ finalise_of shape body =
     then Some (Finalise (slice_index body 0) (record { 0 = number2 body 1 }))
     else None
 
+-- a lane, and no more
+unfoldable pub ask_of : List ℕ → Option Item
+ask_of body =
+    if length body == 1 && nat_lt (slice_index body 0) 64
+    then Some (Ask (slice_index body 0))
+    else None
+
 -- the kinds that are served
 unfoldable pub item_of : Shape → ℕ → List ℕ → Option Item
 item_of shape kind body =
@@ -56,4 +63,5 @@ item_of shape kind body =
     else if kind == 4 then trim_of body
     else if kind == 5 then add_of shape body
     else if kind == 6 then finalise_of shape body
+    else if kind == 7 then ask_of body
     else None

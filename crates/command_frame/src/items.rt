@@ -37,6 +37,10 @@ pub enum Item {
         lane: u8,
         shard: Shard,
     },
+    /// Asks where the last append of the lane stands.
+    Ask {
+        lane: u8,
+    },
 }
 
 /// How many bytes the record of an item has.
@@ -61,5 +65,6 @@ pub fn spelled_length(item: &Item) -> u32
         Item::Read { .. } => 17,
         Item::Trim { .. } => 14,
         Item::Add { .. } | Item::Finalise { .. } => 8,
+        Item::Ask { .. } => 6,
     }
 }

@@ -2,7 +2,7 @@
 
 ghost use Rattle.std.specs.Prelude.{◌≡◌, ◌<◌, ◌≤◌, length, drop, slice_index, nat_lt, IfOk};
 ghost use Rattle.log_base.specs.Shape.{shape};
-ghost use Rattle.command_frame.specs.Reading.{names_shard, names_replica, append_of, read_of, trim_of, add_of, finalise_of, item_of};
+ghost use Rattle.command_frame.specs.Reading.{names_shard, names_replica, append_of, read_of, trim_of, add_of, finalise_of, ask_of, item_of};
 
 use crate::items::Item;
 use log_base::{Bytes, Config, Position, Replica, Shard, number_u16, number_u64};
@@ -32,6 +32,7 @@ fn read_kind(
         4 => Ok(read_trim(body)),
         5 => Ok(read_add(config, body)),
         6 => Ok(read_finalise(config, body)),
+        7 => Ok(read_ask(body)),
         _ => Ok(None),
     }
 }
@@ -117,4 +118,14 @@ fn read_finalise(config: &Config, body: &[u8]) -> Option<Item>
         lane: body[0],
         shard: Shard(number_u16(body, 1)),
     })
+}
+
+#[tactic(auto, unfolding(crate::specs::Reading::ask_of))]
+fn read_ask(body: &[u8]) -> Option<Item>
+    ensures { result ≡ ask_of body.now }
+{
+    if body.len() != 1 || body[0] >= 64 {
+        return None;
+    }
+    Some(Item::Ask { lane: body[0] })
 }

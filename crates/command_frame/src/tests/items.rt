@@ -6,10 +6,11 @@ use std::alloc::Global;
 use std::test::Fail;
 
 /// Add of shard 0; Append of "a" to segment 0 of shard 0; Read of position 0 at replica 0 of shard 0; on lane 63,
-/// Trim to position 258; Finalise of shard 0.
-const FIVE: [u8; 57] = [
+/// Trim to position 258; Finalise of shard 0; Ask.
+const SIX: [u8; 63] = [
     0, 0, 0, 4, 5, 0, 0, 0, 0, 0, 0, 6, 1, 0, 0, 0, 0, 97, 0, 0, 0, 13, 2, 0, 0, 0, 0, 0, 0, 0, 0,
-    0, 0, 0, 0, 0, 0, 0, 10, 4, 63, 0, 0, 0, 0, 0, 0, 1, 2, 0, 0, 0, 4, 6, 63, 0, 0,
+    0, 0, 0, 0, 0, 0, 0, 10, 4, 63, 0, 0, 0, 0, 0, 0, 1, 2, 0, 0, 0, 4, 6, 63, 0, 0, 0, 0, 0, 2, 7,
+    63,
 ];
 
 /// How many items are read, up to 70,000, and the place and the fault that end them, if it is not the end.
@@ -41,7 +42,7 @@ fn read_all(
 #[test]
 fn items_of_the_vectors(rt: HostRuntime) -> Result<(), Fail> {
     let config = Config::new(1, 1, 1, 1).ok().ok_or("config")?;
-    let bytes = Vec::from_slice(rt.alloc(), &FIVE)?;
+    let bytes = Vec::from_slice(rt.alloc(), &SIX)?;
     let mut source = MemorySource::new(bytes, 5, Vec::new(rt.alloc()));
     let mut reader = ItemReader::new(rt.alloc(), config);
     let table = [
@@ -56,8 +57,9 @@ fn items_of_the_vectors(rt: HostRuntime) -> Result<(), Fail> {
         ),
         (49, "Item(Trim { lane: 63, position: Position(258) })"),
         (57, "Item(Finalise { lane: 63, shard: Shard(0) })"),
-        (57, "End"),
-        (57, "End"),
+        (63, "Item(Ask { lane: 63 })"),
+        (63, "End"),
+        (63, "End"),
     ];
     for (offset, want) in table {
         let next = reader.next(&mut source).ok().ok_or("fault")?;
@@ -71,15 +73,16 @@ fn items_of_the_vectors(rt: HostRuntime) -> Result<(), Fail> {
 
 #[test]
 fn items_cut_short(rt: HostRuntime) -> Result<(), Fail> {
-    for size in 0..58 {
-        let bytes = Vec::from_slice(rt.alloc(), &FIVE[..size])?;
+    for size in 0..64 {
+        let bytes = Vec::from_slice(rt.alloc(), &SIX[..size])?;
         let (count, at) = match size {
             0..8 => (0, 0),
             8..18 => (1, 8),
             18..35 => (2, 18),
             35..49 => (3, 35),
             49..57 => (4, 49),
-            _ => (5, 57),
+            57..63 => (5, 57),
+            _ => (6, 63),
         };
         let fault = if at == size as u64 {
             None
@@ -94,7 +97,7 @@ fn items_cut_short(rt: HostRuntime) -> Result<(), Fail> {
 
 #[test]
 fn no_items(rt: HostRuntime) -> Result<(), Fail> {
-    let table: [(&str, &[u8]); 21] = [
+    let table: [(&str, &[u8]); 22] = [
         ("length 0", &[0, 0, 0, 0, 5, 0, 0, 0]),
         ("length 65,542", &[0, 1, 0, 6, 5, 0, 0, 0]),
         ("length 2^32 - 1", &[255, 255, 255, 255, 5, 0, 0, 0]),
@@ -103,7 +106,8 @@ fn no_items(rt: HostRuntime) -> Result<(), Fail> {
             "Subscribe",
             &[0, 0, 0, 15, 3, 0, 0, 0, 0, 0, 0, 0, 0, 0, 0, 0, 0, 0, 1],
         ),
-        ("Ask", &[0, 0, 0, 2, 7, 0]),
+        ("Ask on lane 64", &[0, 0, 0, 2, 7, 64]),
+        ("Ask with a byte too many", &[0, 0, 0, 3, 7, 0, 0]),
         ("Fault", &[0, 0, 0, 6, 8, 0, 104, 111, 108, 100]),
         ("kind 9", &[0, 0, 0, 4, 9, 0, 0, 0]),
         ("lane 64", &[0, 0, 0, 4, 5, 64, 0, 0]),
