@@ -12,6 +12,7 @@ An item is one of
     read SHARD.REPLICA @POSITION
     trim POSITION
     finalise SHARD
+    ask
 
 with `lane N:` before it where the lane is not 0. A record is text in quotes, with the escapes \\n \\t \\\\ \\" \\xHH, or
 `hex:` and pairs of hexadecimal digits. Empty lines are passed over.
@@ -140,13 +141,19 @@ def finalise(lane, rest):
     return frame(6, lane + number(rest, 2, "a shard"))
 
 
-VERBS = {"add": add, "append": append, "read": read, "trim": trim, "finalise": finalise}
+def ask(lane, rest):
+    if rest:
+        raise Refused("nothing behind ask")
+    return frame(7, lane)
+
+
+VERBS = {"add": add, "append": append, "read": read, "trim": trim, "finalise": finalise, "ask": ask}
 
 
 def item_frame(line):
     found = ITEM.fullmatch(line.strip())
     if not found or found["verb"] not in VERBS:
-        raise Refused("add SHARD, append SHARD.REPLICA RECORD, read SHARD.REPLICA @POSITION, trim POSITION or finalise SHARD")
+        raise Refused("add SHARD, append SHARD.REPLICA RECORD, read SHARD.REPLICA @POSITION, trim POSITION, finalise SHARD or ask")
     lane = number(found["lane"] or "0", 1, "a lane")
     if lane[0] > 63:
         raise Refused("a lane: 0 to 63")
@@ -164,6 +171,8 @@ def item_text(frame_bytes):
         return f"{prefix}add {shard}"
     if kind == 6:
         return f"{prefix}finalise {shard}"
+    if kind == 7:
+        return f"{prefix}ask"
     if kind == 1:
         return f"{prefix}append {shard}.{body[2]} {record_text(body[3:])}"
     return f"{prefix}read {shard}.{body[2]} @{int.from_bytes(body[3:], 'big')}"

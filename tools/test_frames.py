@@ -23,6 +23,8 @@ ITEMS = [
     ("lane 63: trim 18446744073709551615", "0000000a 04 3f ffffffffffffffff"),
     ("finalise 0", "00000004 06 00 0000"),
     ("lane 1: finalise 258", "00000004 06 01 0102"),
+    ("ask", "00000002 07 00"),
+    ("lane 9: ask", "00000002 07 09"),
 ]
 
 # A reply's frame, and its text.
@@ -122,6 +124,7 @@ BAD_LINES = [
     ("trim 18446744073709551616", "a position"),
     ("finalise", "a shard"),
     ("finalise 0.0", "a shard"),
+    ("ask 0", "nothing behind"),
 ]
 
 # Bytes that are no reply's frames, what is shown before them, and a word of the fault.

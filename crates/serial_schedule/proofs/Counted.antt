@@ -1,13 +1,15 @@
 -- Each item is answered once.
-use Rattle.std.proofs.Common.{◌≡◌, ℕ, ◌+◌, ◌≤◌, Bool, true, false, cond, nat_lt, ◌==◌, List, [], ◌∷◌, ◌++◌, length, Option, Some, None, refl, ap, sym, subst, ◌∙◌, length-append, zero-add, arith}
+use Rattle.std.proofs.Common.{◌≡◌, ℕ, ◌+◌, ◌≤◌, Bool, true, false, cond, nat_lt, ◌==◌, List, [], ◌∷◌, ◌++◌, length, get_or, Option, Some, None, refl, ap, sym, subst, ◌∙◌, length-append, zero-add, arith}
 use Rattle.log_base.specs.ClusterShape.{Shape}
 use Rattle.log_base.specs.declared.numbers.Client.{Client}
+use Rattle.log_base.specs.declared.numbers.NodeId.{NodeId}
+use Rattle.log_base.specs.declared.numbers.Number.{Number}
 use Rattle.log_base.specs.declared.numbers.Position.{Position}
 use Rattle.log_base.specs.declared.numbers.Replica.{Replica}
 use Rattle.log_base.specs.declared.numbers.Shard.{Shard}
 use Rattle.record_frame.specs.declared.values.Value.{Value}
 use Rattle.command_frame.specs.declared.items.Item.{Item}
-use Rattle.command_frame.specs.declared.items.Item.TheVariants.{Append, Read, Trim, Add, Finalise}
+use Rattle.command_frame.specs.declared.items.Item.TheVariants.{Append, Read, Trim, Add, Finalise, Ask as AskItem}
 use Rattle.reply_frame.specs.declared.replies.Reply.{Reply, Stored, Down, Elsewhere, Taken, NotLeading, NoLeader}
 use Rattle.history_frame.specs.declared.events.Event.{Event}
 use Rattle.history_frame.specs.declared.events.Sent.{Sent}
@@ -17,10 +19,10 @@ use Rattle.serial_schedule.specs.declared.duties.Awaited.{Awaited}
 use Rattle.serial_schedule.specs.declared.duties.Awaited.TheVariants.{Storing, Requesting, Reading, Last}
 use Rattle.serial_schedule.specs.declared.duties.Duty.{Duty}
 use Rattle.serial_schedule.specs.declared.duties.Duty.TheVariants.{Give, DeliverAll, MakeCall}
-use Rattle.serial_schedule.specs.Courses.{beginning, course_of, reading_at, request}
+use Rattle.serial_schedule.specs.Courses.{asked, beginning, client_of, course_of, last_number, reading_at, request}
 use Rattle.serial_schedule.specs.Driven.{after_event, after_events}
 use Rattle.serial_schedule.specs.Noting.{course_or_none, duties_with, replies_with}
-use Rattle.serial_schedule.specs.Scheduling.{Scheduled, Waiting, at_first, begun, delivery, drawn, due, first_step, given, is_done, is_first_done, is_idle, next_turn, noted, passed, ready, ready_with, rest_in, taken, turn_in}
+use Rattle.serial_schedule.specs.Scheduling.{Scheduled, Waiting, at_first, begun, delivery, entered, due, first_step, given, is_done, is_first_done, is_idle, next_turn, noted, passed, ready, ready_with, rest_in, taken, turn_in}
 use Rattle.serial_schedule.proofs.Along.{along, ready-keeps}
 use Rattle.serial_schedule.proofs.Kept.{noted-parts}
 use Rattle.serial_schedule.proofs.Ready.{begun-items}
@@ -110,12 +112,17 @@ followed-count config (Some awaited) reply duties replies = with-count (course_o
 
 -- ---- up to the next turn
 
-beginning-count : (config : Shape) (run : ℕ) (draws : List ℕ) (item : Item) → course_count (beginning config run draws item) ≡ 1
-beginning-count config run draws (Append lane shard replica bytes) = refl
-beginning-count config run draws (Read lane shard replica position) = refl
-beginning-count config run draws (Trim lane position) = refl
-beginning-count config run draws (Add lane shard) = refl
-beginning-count config run draws (Finalise lane shard) = refl
+asked-count : (client : Client) (number : Number) (primary : Option NodeId) → course_count (asked client number primary) ≡ 1
+asked-count client number None = refl
+asked-count client number (Some primary) = refl
+
+beginning-count : (config : Shape) (run : ℕ) (draws : List ℕ) (primaries : List (Option NodeId)) (item : Item) → course_count (beginning config run draws primaries item) ≡ 1
+beginning-count config run draws primaries (Append lane shard replica bytes) = refl
+beginning-count config run draws primaries (Read lane shard replica position) = refl
+beginning-count config run draws primaries (Trim lane position) = refl
+beginning-count config run draws primaries (Add lane shard) = refl
+beginning-count config run draws primaries (Finalise lane shard) = refl
+beginning-count config run draws primaries (AskItem lane) = asked-count (client_of lane) (last_number run draws lane) (get_or primaries lane None)
 
 taken-counted : (count : ℕ) (s : Scheduled) (course : Course) → counted s + course_count course ≡ count → s.awaited ≡ None → IsCounted count (taken s course)
 taken-counted count s (Replies reply) all none =
@@ -124,10 +131,10 @@ taken-counted count s (GoesOn duties) all none = record { all = let more = calls
 
 begun-counted : (count : ℕ) (s : Scheduled) (item : Item) (items : List Item) → s.items ≡ item ∷ items → IsCounted count s → IsCounted count (begun s item items)
 begun-counted count s item items left h =
-    let one : course_count (beginning s.config s.run s.draws item) ≡ 1 = beginning-count s.config s.run s.draws item in
+    let one : course_count (beginning s.config s.run s.draws s.primaries item) ≡ 1 = beginning-count s.config s.run s.draws s.primaries item in
     let fewer = ap (λ (some : List Item). length some) left in
     let all : counted s ≡ count = h.all in
-    taken-counted count (record s { items = items; draws = drawn item s.draws }) (beginning s.config s.run s.draws item) (omega arith) h.none
+    taken-counted count (entered s item items) (beginning s.config s.run s.draws s.primaries item) (omega arith) h.none
 
 pub ready-counted : (count : ℕ) (s : Scheduled) → IsCounted count s → IsCounted count (ready s)
 ready-counted count s h =

@@ -11,7 +11,7 @@ use Rattle.serial_schedule.specs.declared.duties.Duty.{Duty}
 use Rattle.serial_schedule.specs.declared.duties.Duty.TheVariants.{Give, DeliverAll, MakeCall}
 use Rattle.serial_schedule.specs.Courses.{beginning}
 use Rattle.serial_schedule.specs.Driven.{after_event, after_events}
-use Rattle.serial_schedule.specs.Scheduling.{Scheduled, Waiting, begun, delivery, drawn, first_step, given, noted, ready, rest_in, taken}
+use Rattle.serial_schedule.specs.Scheduling.{Scheduled, Waiting, begun, delivery, entered, first_step, given, noted, ready, rest_in, taken}
 use Rattle.serial_schedule.proofs.Along.{along, ready-keeps}
 use Rattle.serial_schedule.proofs.Kept.{noted-parts}
 
@@ -25,7 +25,7 @@ taken-of config run s (GoesOn duties) h = record { config_is = h.config_is; run_
 
 begun-of : (config : Shape) (run : ℕ) (s : Scheduled) (item : Item) (items : List Item) → IsOf config run s → IsOf config run (begun s item items)
 begun-of config run s item items h =
-    taken-of config run (record s { items = items; draws = drawn item s.draws }) (beginning s.config s.run s.draws item)
+    taken-of config run (entered s item items) (beginning s.config s.run s.draws s.primaries item)
     (record { config_is = h.config_is; run_is = h.run_is })
 
 pub ready-of : (config : Shape) (run : ℕ) (s : Scheduled) → IsOf config run s → IsOf config run (ready s)

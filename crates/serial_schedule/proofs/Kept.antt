@@ -5,6 +5,7 @@ use Rattle.std.proofs.lemmas.Grind.{common_steps}
 use borrow.Author.Tests.{ltb-true}
 use Rattle.log_base.specs.ClusterShape.{InRange, Shape}
 use Rattle.log_base.specs.declared.numbers.Client.{Client}
+use Rattle.log_base.specs.declared.numbers.NodeId.{NodeId}
 use Rattle.log_base.specs.declared.numbers.Position.{Position}
 use Rattle.log_base.specs.declared.numbers.Replica.{Replica}
 use Rattle.log_base.specs.declared.numbers.Shard.{Shard}
@@ -40,6 +41,10 @@ each-append P (x ∷ xs) ys hx hy = (hx.0, each-append P xs ys hx.1 hy)
 pub none-drawn : (count lane : ℕ) → get_or (replicate {A = ℕ} count 0) lane 0 ≡ 0
 none-drawn count lane = grind (arith, common_steps)
 
+-- no append was submitted at first
+pub none-kept : (count lane : ℕ) → get_or (replicate {A = Option NodeId} count None) lane None ≡ None
+none-kept count lane = grind (arith, common_steps)
+
 pub opening-kept : (config : Shape) → InRange config → AllByRecursion (IsDuty config) (opening config)
 opening-kept config range = (omega arith, (omega arith, (tt, tt)))
 
@@ -70,7 +75,7 @@ course-is config (Requesting orderer client value) reply h = tt
 course-is config (Reading replica client position) reply h = tt
 course-is config Last reply h = tt
 
-taken-is : (config : Shape) (course : Course) (duties : List Duty) → IsCourse config course → AllByRecursion (IsDuty config) duties
+pub taken-is : (config : Shape) (course : Course) (duties : List Duty) → IsCourse config course → AllByRecursion (IsDuty config) duties
     → AllByRecursion (IsDuty config) (duties_with (Some course) duties)
 taken-is config (Replies reply) duties h rest = rest
 taken-is config (GoesOn first) duties h rest = each-append (IsDuty config) first duties h rest

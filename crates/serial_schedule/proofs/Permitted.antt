@@ -77,6 +77,14 @@ IsPermitted config (MakeCall node call awaited) = IsCallAt config node.0 call ×
 abbrev pub HaveRoom : List ℕ → ℕ → Type 0
 HaveRoom draws count = (lane : ℕ) → get_or draws lane 0 + count ≤ 65536
 
+-- a primary is a storage node
+abbrev pub IsPrimaryOr : Shape → Option NodeId → Type 0
+IsPrimaryOr config None = Unit {0}
+IsPrimaryOr config (Some primary) = IsStorageNode config primary.0
+
+abbrev pub ArePrimaries : Shape → List (Option NodeId) → Type 0
+ArePrimaries config primaries = (lane : ℕ) → IsPrimaryOr config (get_or primaries lane None)
+
 -- all of a schedule is permitted
 pub record AllPermitted (s : Scheduled) : Type 0 where
   pub range : InRange s.config
@@ -86,6 +94,8 @@ pub record AllPermitted (s : Scheduled) : Type 0 where
   pub answer : IsAnswerOrNone s.config s.awaited
   pub lanes : length s.draws ≡ 64
   pub room : HaveRoom s.draws (length s.items)
+  pub kept : length s.primaries ≡ 64
+  pub primaries : ArePrimaries s.config s.primaries
 
 -- ---- roles
 

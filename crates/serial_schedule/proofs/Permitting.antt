@@ -1,12 +1,15 @@
 -- All of a schedule stays permitted.
-use Rattle.std.proofs.Common.{◌≡◌, ℕ, ◌+◌, ◌-◌, ◌<◌, ◌≤◌, suc, Bool, true, false, cond, nat_lt, ◌==◌, List, [], ◌∷◌, length, get_or, Option, Some, None, refl, sym, subst, ◌∙◌, arith}
+use Rattle.std.proofs.Common.{◌≡◌, ℕ, ◌+◌, ◌-◌, ◌<◌, ◌≤◌, suc, Bool, true, false, cond, nat_lt, ◌==◌, List, [], ◌∷◌, length, get_or, Option, Some, None, refl, ap, sym, subst, ⊎_elim, ◌∙◌, arith}
 use Rattle.std.specs.List.{AllByRecursion}
 use Rattle.std.specs.Prelude.{slice_set}
 use Rattle.std.proofs.lemmas.Grind.{common_steps}
-use Rattle.std.proofs.lemmas.List.{length-set}
+use Rattle.std.proofs.lemmas.Bool.{cases_eq}
+use Rattle.std.proofs.lemmas.List.{get_or-set_other, get_or-set_same, length-set}
 use borrow.Author.Tests.{ltb-true}
 use Rattle.log_base.specs.ClusterShape.{InRange, Shape}
 use Rattle.log_base.specs.declared.numbers.Client.{Client}
+use Rattle.log_base.specs.declared.numbers.NodeId.{NodeId}
+use Rattle.log_base.specs.declared.numbers.Number.{Number}
 use Rattle.log_base.specs.declared.numbers.Position.{Position}
 use Rattle.log_base.specs.declared.numbers.Replica.{Replica}
 use Rattle.log_base.specs.declared.numbers.Shard.{Shard}
@@ -14,7 +17,7 @@ use Rattle.record_frame.specs.declared.values.Value.{Value}
 use Rattle.record_frame.specs.declared.values.Value.TheVariants.{Add as AddValue, Finalise as FinaliseValue, Trim as TrimValue}
 use Rattle.record_frame.specs.Entries.{IsEntry, entry_of}
 use Rattle.command_frame.specs.declared.items.Item.{Item}
-use Rattle.command_frame.specs.declared.items.Item.TheVariants.{Append, Read, Trim, Add, Finalise}
+use Rattle.command_frame.specs.declared.items.Item.TheVariants.{Append, Read, Trim, Add, Finalise, Ask as AskItem}
 use Rattle.command_frame.specs.Items.{IsItem}
 use Rattle.reply_frame.specs.declared.replies.Reply.{Reply, Stored, Down, Elsewhere, Taken, NotLeading, NoLeader}
 use Rattle.history_frame.specs.declared.events.Event.{Event}
@@ -31,15 +34,15 @@ use Rattle.serial_schedule.specs.declared.duties.Signal.{Signal}
 use Rattle.serial_schedule.specs.declared.duties.Signal.TheVariants.{Restart, Lead, Tick}
 use Rattle.serial_schedule.specs.declared.turns.Turn.{Turn}
 use Rattle.serial_schedule.specs.Calling.{IsAllowed, IsNoLetter}
-use Rattle.serial_schedule.specs.Courses.{client_of, confirmation, course_of, enquiry, next_number, reading_at, request}
+use Rattle.serial_schedule.specs.Courses.{asked, client_of, confirmation, course_of, enquiry, last_number, next_number, reading_at, request}
 use Rattle.serial_schedule.specs.Driven.{after_event, after_events}
 use Rattle.serial_schedule.specs.Duties.{opening, settling}
 use Rattle.serial_schedule.specs.Noting.{course_or_none, duties_with}
-use Rattle.serial_schedule.specs.Scheduling.{Scheduled, Waiting, at_first, begun, delivery, first_step, given, is_first_done, next_turn, noted, passed, ready, rest_in, turn_in}
+use Rattle.serial_schedule.specs.Scheduling.{Scheduled, Waiting, at_first, begun, delivery, entered, first_step, given, is_first_done, next_turn, noted, passed, ready, rest_in, taken, turn_in}
 use Rattle.serial_schedule.proofs.Along.{along, ready-keeps, some_is}
 use Rattle.serial_schedule.proofs.Counted.{ready-undone}
-use Rattle.serial_schedule.proofs.Kept.{each-append, each-due, none-drawn, noted-parts}
-use Rattle.serial_schedule.proofs.Permitted.{AllPermitted, HaveRoom, IsAnswerOf, IsAnswerOrNone, IsOrdererNode, IsPermitted, IsSignalFor, IsStorageNode, IsWish, call_allowed, signal_allowed}
+use Rattle.serial_schedule.proofs.Kept.{each-append, each-due, none-drawn, none-kept, noted-parts}
+use Rattle.serial_schedule.proofs.Permitted.{AllPermitted, HaveRoom, IsAnswerOf, IsAnswerOrNone, IsOrdererNode, IsPermitted, IsPrimaryOr, IsSignalFor, IsStorageNode, IsWish, call_allowed, signal_allowed}
 
 -- ---- an answer
 
@@ -113,6 +116,60 @@ room-drawn draws lane count h within = λ k. room-at draws lane count k (h k) (h
 pub room-less : (draws : List ℕ) (count : ℕ) → HaveRoom draws (suc count) → HaveRoom draws count
 room-less draws count h = λ k. let room : get_or draws k 0 + suc count ≤ 65536 = h k in omega arith
 
+-- a primary that is kept leaves the others as they are
+primary-kept : (config : Shape) (primaries : List (Option NodeId)) (lane k : ℕ) (primary : Option NodeId) → lane < length primaries → IsPrimaryOr config primary
+    → IsPrimaryOr config (get_or primaries k None) → IsPrimaryOr config (get_or (slice_set primaries lane primary) k None)
+primary-kept config primaries lane k primary within new old = ⊎_elim
+    (λ same. subst (IsPrimaryOr config) (sym (ap (λ (n : ℕ). get_or (slice_set primaries lane primary) n None) same ∙ get_or-set_same primaries lane primary None within)) new)
+    (λ other. subst (IsPrimaryOr config) (sym (get_or-set_other primaries lane k primary None other)) old)
+    (cases_eq k lane)
+
+-- a lane's last append is asked for
+asked-permitted : (config : Shape) (client : Client) (number : Number) (primary : Option NodeId) → IsPrimaryOr config primary
+    → IsCoursePermitted config (asked client number primary)
+asked-permitted config client number None h = tt
+asked-permitted config client number (Some primary) h = ((h, tt), tt)
+
+entered-permitted : (s : Scheduled) (lane : ℕ) (items : List Item) → s.items ≡ AskItem lane ∷ items → AllPermitted s → AllPermitted (entered s (AskItem lane) items)
+entered-permitted s lane items left h =
+    let all = subst (AllByRecursion (IsItem s.config)) left h.items in
+    let room = subst (λ (some : List Item). HaveRoom s.draws (length some)) left h.room in
+    record {
+      range = h.range;
+      run_fits = h.run_fits;
+      items = all.1;
+      duties = h.duties;
+      answer = h.answer;
+      lanes = h.lanes;
+      room = room-less s.draws (length items) room;
+      kept = h.kept;
+      primaries = h.primaries;
+    }
+
+taken-permitted : (s : Scheduled) (course : Course) → IsCoursePermitted s.config course → AllPermitted s → AllPermitted (taken s course)
+taken-permitted s (Replies reply) course h = record {
+  range = h.range;
+  run_fits = h.run_fits;
+  items = h.items;
+  duties = h.duties;
+  answer = h.answer;
+  lanes = h.lanes;
+  room = h.room;
+  kept = h.kept;
+  primaries = h.primaries;
+}
+taken-permitted s (GoesOn first) course h = record {
+  range = h.range;
+  run_fits = h.run_fits;
+  items = h.items;
+  duties = each-append (IsPermitted s.config) first s.duties course h.duties;
+  answer = h.answer;
+  lanes = h.lanes;
+  room = h.room;
+  kept = h.kept;
+  primaries = h.primaries;
+}
+
 -- a value of the cluster is requested
 wished-permitted : (s : Scheduled) (item : Item) (items : List Item) (client : Client) (value : Value) → s.items ≡ item ∷ items → IsWish s.config value
     → AllPermitted s → AllPermitted (record s { items = items; duties = request s.config 0 client value ∷ s.duties })
@@ -128,6 +185,8 @@ wished-permitted s item items client value left wish h =
       answer = h.answer;
       lanes = h.lanes;
       room = room-less s.draws (length items) room;
+      kept = h.kept;
+      primaries = h.primaries;
     }
 
 pub begun-permitted : (s : Scheduled) (item : Item) (items : List Item) → s.items ≡ item ∷ items → AllPermitted s → AllPermitted (begun s item items)
@@ -153,6 +212,9 @@ begun-permitted s (Append lane shard replica bytes) items left h =
       answer = h.answer;
       lanes = length-set s.draws lane (get_or s.draws lane 0 + 1) ∙ h.lanes;
       room = room-drawn s.draws lane (length items) room within;
+      kept = length-set s.primaries lane (Some (record { 0 = storage_node s.config shard.0 replica.0 })) ∙ h.kept;
+      primaries = λ k. primary-kept s.config s.primaries lane k (Some (record { 0 = storage_node s.config shard.0 replica.0 }))
+          (subst (λ (n : ℕ). lane < n) (sym h.kept) is.0) node (h.primaries k);
     }
 begun-permitted s (Read lane shard replica position) items left h =
     let all = subst (AllByRecursion (IsItem s.config)) left h.items in
@@ -166,6 +228,8 @@ begun-permitted s (Read lane shard replica position) items left h =
       answer = h.answer;
       lanes = h.lanes;
       room = room-less s.draws (length items) room;
+      kept = h.kept;
+      primaries = h.primaries;
     }
 begun-permitted s (Trim lane position) items left h =
     let all = subst (AllByRecursion (IsItem s.config)) left h.items in
@@ -180,6 +244,10 @@ begun-permitted s (Finalise lane shard) items left h =
     let few : s.config.shards ≤ 8 = h.range.shards in
     let below : shard.0 < s.config.shards = all.0.1 in
     wished-permitted s (Finalise lane shard) items (client_of lane) (FinaliseValue shard) left (record { requested = tt; valid = omega arith; of_config = below }) h
+begun-permitted s (AskItem lane) items left h =
+    taken-permitted (entered s (AskItem lane) items) (asked (client_of lane) (last_number s.run s.draws lane) (get_or s.primaries lane None))
+    (asked-permitted s.config (client_of lane) (last_number s.run s.draws lane) (get_or s.primaries lane None) (h.primaries lane))
+    (entered-permitted s lane items left h)
 
 pub passed-permitted : (s : Scheduled) → AllPermitted s → AllPermitted (passed s)
 passed-permitted s h = record {
@@ -190,6 +258,8 @@ passed-permitted s h = record {
   answer = h.answer;
   lanes = h.lanes;
   room = h.room;
+  kept = h.kept;
+  primaries = h.primaries;
 }
 
 pub ready-permitted : (s : Scheduled) → AllPermitted s → AllPermitted (ready s)
@@ -207,6 +277,8 @@ with_duties s duties awaited queue h each answer = record {
   answer = answer;
   lanes = h.lanes;
   room = h.room;
+  kept = h.kept;
+  primaries = h.primaries;
 }
 
 delivery-permitted : (s : Scheduled) (queue : List Waiting) → AllPermitted s → AllPermitted (rest_in s (delivery s queue))
@@ -251,6 +323,8 @@ noted-permitted s outputs reply h =
       answer = tt;
       lanes = h.lanes;
       room = h.room;
+      kept = h.kept;
+      primaries = h.primaries;
     })
 
 pub event-permitted : (before : List Event) (s : Scheduled) (event : Event) → AllPermitted s → AllPermitted (after_event s event)
@@ -269,6 +343,8 @@ first-permitted-is config run items range small few is = record {
   answer = tt;
   lanes = refl;
   room = λ lane. let none = none-drawn 64 lane in omega arith;
+  kept = refl;
+  primaries = λ lane. subst (IsPrimaryOr config) (sym (none-kept 64 lane)) tt;
 }
 
 -- ---- the next turn

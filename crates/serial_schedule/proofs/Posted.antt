@@ -17,7 +17,7 @@ use Rattle.serial_schedule.specs.declared.turns.Turn.{Turn}
 use Rattle.serial_schedule.specs.Courses.{beginning}
 use Rattle.serial_schedule.specs.Driven.{after_event, after_events}
 use Rattle.serial_schedule.specs.Duties.{signal_input}
-use Rattle.serial_schedule.specs.Scheduling.{Scheduled, Waiting, at_first, begun, delivery, drawn, first_step, given, letters_from, next_turn, noted, ready, rest_in, taken, turn_in}
+use Rattle.serial_schedule.specs.Scheduling.{Scheduled, Waiting, at_first, begun, delivery, entered, first_step, given, letters_from, next_turn, noted, ready, rest_in, taken, turn_in}
 use Rattle.serial_schedule.proofs.Along.{along, ready-keeps, some_is}
 use Rattle.serial_schedule.proofs.Kept.{each-append, noted-parts}
 
@@ -74,7 +74,7 @@ taken-posted events s (GoesOn duties) h = record { place = h.place; each = h.eac
 
 begun-posted : (events : List Event) (s : Scheduled) (item : Item) (items : List Item) → ArePosted events s → ArePosted events (begun s item items)
 begun-posted events s item items h =
-    taken-posted events (record s { items = items; draws = drawn item s.draws }) (beginning s.config s.run s.draws item)
+    taken-posted events (entered s item items) (beginning s.config s.run s.draws s.primaries item)
     (record { place = h.place; each = h.each })
 
 pub ready-posted : (events : List Event) (s : Scheduled) → ArePosted events s → ArePosted events (ready s)

@@ -6,7 +6,7 @@ use Rattle.serial_schedule.specs.declared.courses.Course.{Course}
 use Rattle.serial_schedule.specs.declared.courses.Course.TheVariants.{Replies, GoesOn}
 use Rattle.serial_schedule.specs.declared.duties.Duty.{Duty}
 use Rattle.serial_schedule.specs.Courses.{beginning}
-use Rattle.serial_schedule.specs.Scheduling.{Scheduled, Waiting, begun, begun_next, drawn, due, is_done, is_first_done, is_idle, passed, ready, ready_with, taken}
+use Rattle.serial_schedule.specs.Scheduling.{Scheduled, Waiting, begun, begun_next, entered, due, is_done, is_first_done, is_idle, passed, ready, ready_with, taken}
 
 -- where the first duty is not done, nothing is passed over
 pub due-stops : (queue : List Waiting) (duties : List Duty) → is_first_done queue duties ≡ false → due queue duties ≡ duties
@@ -45,7 +45,7 @@ taken-items s (GoesOn duties) = refl
 
 -- the items that are left when one begins
 pub begun-items : (s : Scheduled) (item : Item) (items : List Item) → (begun s item items).items ≡ items
-begun-items s item items = taken-items (record s { items = items; draws = drawn item s.draws }) (beginning s.config s.run s.draws item)
+begun-items s item items = taken-items (entered s item items) (beginning s.config s.run s.draws s.primaries item)
 
 -- where nothing is due, the next item begins
 ready_with-begins : (s : Scheduled) (item : Item) (items : List Item) → passed s ≡ s → is_idle s ≡ true

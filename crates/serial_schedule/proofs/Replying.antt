@@ -1,15 +1,17 @@
--- What the replies of a run are made of: what the nodes answered, or that no orderer leads.
-use Rattle.std.proofs.Common.{◌+◌, ℕ, Bool, true, false, cond, nat_lt, List, [], ◌∷◌, Option, Some, None, sym, subst}
+-- What the replies of a run are made of: what the nodes answered, that no orderer leads, or that nothing is kept.
+use Rattle.std.proofs.Common.{◌+◌, ℕ, Bool, true, false, cond, nat_lt, List, [], ◌∷◌, get_or, Option, Some, None, sym, subst}
 use Rattle.std.specs.List.{AllByRecursion}
 use Rattle.log_base.specs.ClusterShape.{Shape}
 use Rattle.log_base.specs.declared.numbers.Client.{Client}
+use Rattle.log_base.specs.declared.numbers.NodeId.{NodeId}
+use Rattle.log_base.specs.declared.numbers.Number.{Number}
 use Rattle.log_base.specs.declared.numbers.Position.{Position}
 use Rattle.log_base.specs.declared.numbers.Replica.{Replica}
 use Rattle.log_base.specs.declared.numbers.Shard.{Shard}
 use Rattle.record_frame.specs.declared.values.Value.{Value}
 use Rattle.command_frame.specs.declared.items.Item.{Item}
-use Rattle.command_frame.specs.declared.items.Item.TheVariants.{Append, Read, Trim, Add, Finalise}
-use Rattle.reply_frame.specs.declared.replies.Reply.{Reply, Stored, Down, Elsewhere, Taken, NotLeading, NoLeader}
+use Rattle.command_frame.specs.declared.items.Item.TheVariants.{Append, Read, Trim, Add, Finalise, Ask as AskItem}
+use Rattle.reply_frame.specs.declared.replies.Reply.{Reply, Stored, Down, Elsewhere, Taken, NotLeading, NoLeader, NothingKept}
 use Rattle.history_frame.specs.declared.events.Event.{Event}
 use Rattle.serial_schedule.specs.declared.courses.Course.{Course}
 use Rattle.serial_schedule.specs.declared.courses.Course.TheVariants.{Replies, GoesOn}
@@ -17,14 +19,14 @@ use Rattle.serial_schedule.specs.declared.duties.Awaited.{Awaited}
 use Rattle.serial_schedule.specs.declared.duties.Awaited.TheVariants.{Storing, Requesting, Reading, Last}
 use Rattle.serial_schedule.specs.declared.duties.Duty.{Duty}
 use Rattle.serial_schedule.specs.declared.duties.Duty.TheVariants.{Give, DeliverAll, MakeCall}
-use Rattle.serial_schedule.specs.Courses.{beginning, course_of, reading_at, request}
+use Rattle.serial_schedule.specs.Courses.{asked, beginning, client_of, course_of, last_number, reading_at, request}
 use Rattle.serial_schedule.specs.Driven.{after_event, after_events, replies_of}
 use Rattle.serial_schedule.specs.Noting.{course_or_none, replies_with}
-use Rattle.serial_schedule.specs.Scheduling.{Scheduled, Waiting, at_first, begun, delivery, drawn, first_step, given, ready, rest_in, taken}
+use Rattle.serial_schedule.specs.Scheduling.{Scheduled, Waiting, at_first, begun, delivery, entered, first_step, given, ready, rest_in, taken}
 use Rattle.serial_schedule.proofs.Along.{ready-keeps}
 use Rattle.serial_schedule.proofs.Kept.{each-append, noted-parts}
 
-module _ (P : Reply → Type 0) (no_leader : P NoLeader) where
+module _ (P : Reply → Type 0) (no_leader : P NoLeader) (nothing_kept : P NothingKept) where
   abbrev IsGood : Course → Type 0
   IsGood (Replies reply) = P reply
   IsGood (GoesOn duties) = Unit {0}
@@ -63,16 +65,21 @@ module _ (P : Reply → Type 0) (no_leader : P NoLeader) where
   taken-good s (Replies reply) good h = each-append P s.replies (reply ∷ []) h (good, tt)
   taken-good s (GoesOn duties) good h = h
 
-  beginning-good : (config : Shape) (run : ℕ) (draws : List ℕ) (item : Item) → IsGood (beginning config run draws item)
-  beginning-good config run draws (Append lane shard replica bytes) = tt
-  beginning-good config run draws (Read lane shard replica position) = tt
-  beginning-good config run draws (Trim lane position) = tt
-  beginning-good config run draws (Add lane shard) = tt
-  beginning-good config run draws (Finalise lane shard) = tt
+  asked-good : (client : Client) (number : Number) (primary : Option NodeId) → IsGood (asked client number primary)
+  asked-good client number None = nothing_kept
+  asked-good client number (Some primary) = tt
+
+  beginning-good : (config : Shape) (run : ℕ) (draws : List ℕ) (primaries : List (Option NodeId)) (item : Item) → IsGood (beginning config run draws primaries item)
+  beginning-good config run draws primaries (Append lane shard replica bytes) = tt
+  beginning-good config run draws primaries (Read lane shard replica position) = tt
+  beginning-good config run draws primaries (Trim lane position) = tt
+  beginning-good config run draws primaries (Add lane shard) = tt
+  beginning-good config run draws primaries (Finalise lane shard) = tt
+  beginning-good config run draws primaries (AskItem lane) = asked-good (client_of lane) (last_number run draws lane) (get_or primaries lane None)
 
   begun-good : (s : Scheduled) (item : Item) (items : List Item) → AllByRecursion P s.replies → AllByRecursion P (begun s item items).replies
   begun-good s item items h =
-      taken-good (record s { items = items; draws = drawn item s.draws }) (beginning s.config s.run s.draws item) (beginning-good s.config s.run s.draws item) h
+      taken-good (entered s item items) (beginning s.config s.run s.draws s.primaries item) (beginning-good s.config s.run s.draws s.primaries item) h
 
   ready-good : (s : Scheduled) → AllByRecursion P s.replies → AllByRecursion P (ready s).replies
   ready-good s h = ready-keeps (λ (x : Scheduled). AllByRecursion P x.replies) (λ x p. p) (λ x item items left idle p. begun-good x item items p) s h
@@ -98,7 +105,7 @@ module _ (P : Reply → Type 0) (no_leader : P NoLeader) where
   events-good s [] answers h = h
   events-good s (event ∷ events) answers h = events-good (after_event s event) events answers.1 (event-good s event answers.0 h)
 
-  -- what is so of each answer of a node, and of there being no leader, is so of each reply
+  -- what is so of each answer of a node, of there being no leader, and of nothing being kept, is so of each reply
   pub replies-good : (config : Shape) (run : ℕ) (items : List Item) (events : List Event) → AllByRecursion (λ (e : Event). P e.happened.reply) events
       → AllByRecursion P (replies_of config run items events)
   replies-good config run items events answers =

@@ -1,15 +1,17 @@
 -- A run begins with a start of each node, and no node is started again.
-use Rattle.std.proofs.Common.{◌≡◌, ◌⊎◌, ◌<◌, ◌≤◌, ◌+◌, ◌-◌, ℕ, zero, suc, Bool, true, false, cond, nat_lt, ◌==◌, List, [], ◌∷◌, ◌++◌, length, Option, Some, None, slice_get, refl, ap, sym, subst, inl, inr, ⊎_elim, length-append, arith, ◌∙◌}
+use Rattle.std.proofs.Common.{◌≡◌, ◌⊎◌, ◌<◌, ◌≤◌, ◌+◌, ◌-◌, ℕ, zero, suc, Bool, true, false, cond, nat_lt, ◌==◌, List, [], ◌∷◌, ◌++◌, length, get_or, Option, Some, None, slice_get, refl, ap, sym, subst, inl, inr, ⊎_elim, length-append, arith, ◌∙◌}
 use Rattle.std.specs.List.{AllByRecursion}
 use Rattle.std.proofs.lemmas.Grind.{common_steps}
 use Rattle.log_base.specs.ClusterShape.{Shape}
 use Rattle.log_base.specs.declared.numbers.Client.{Client}
+use Rattle.log_base.specs.declared.numbers.NodeId.{NodeId}
+use Rattle.log_base.specs.declared.numbers.Number.{Number}
 use Rattle.log_base.specs.declared.numbers.Position.{Position}
 use Rattle.log_base.specs.declared.numbers.Replica.{Replica}
 use Rattle.log_base.specs.declared.numbers.Shard.{Shard}
 use Rattle.record_frame.specs.declared.values.Value.{Value}
 use Rattle.command_frame.specs.declared.items.Item.{Item}
-use Rattle.command_frame.specs.declared.items.Item.TheVariants.{Append, Read, Trim, Add, Finalise}
+use Rattle.command_frame.specs.declared.items.Item.TheVariants.{Append, Read, Trim, Add, Finalise, Ask as AskItem}
 use Rattle.reply_frame.specs.declared.replies.Reply.{Reply, Stored, Down, Elsewhere, Taken, NotLeading, NoLeader}
 use Rattle.history_frame.specs.declared.events.Event.{Event}
 use Rattle.history_frame.specs.declared.events.Sent.{Sent}
@@ -24,11 +26,11 @@ use Rattle.serial_schedule.specs.declared.duties.Duty.{Duty}
 use Rattle.serial_schedule.specs.declared.duties.Duty.TheVariants.{Give, DeliverAll, MakeCall}
 use Rattle.serial_schedule.specs.declared.duties.Signal.TheVariants.{Restart, Lead, Tick}
 use Rattle.serial_schedule.specs.declared.turns.Turn.{Turn}
-use Rattle.serial_schedule.specs.Courses.{beginning, course_of, reading_at, request}
+use Rattle.serial_schedule.specs.Courses.{asked, beginning, client_of, course_of, last_number, reading_at, request}
 use Rattle.serial_schedule.specs.Driven.{IsFollowed, after_event, after_events, next_turn_after, turn_of}
 use Rattle.serial_schedule.specs.Duties.{give}
 use Rattle.serial_schedule.specs.Noting.{course_or_none, duties_with}
-use Rattle.serial_schedule.specs.Scheduling.{Scheduled, Waiting, at_first, begun, delivery, drawn, first_step, given, is_first_done, next_turn, noted, ready, rest_in, taken, turn_in}
+use Rattle.serial_schedule.specs.Scheduling.{Scheduled, Waiting, at_first, begun, delivery, entered, first_step, given, is_first_done, next_turn, noted, ready, rest_in, taken, turn_in}
 use Rattle.serial_schedule.specs.Starts.{IsStartOf}
 use Rattle.serial_schedule.proofs.Along.{followed-along, ready-keeps, some_is}
 use Rattle.serial_schedule.proofs.Counted.{ready-undone}
@@ -95,12 +97,17 @@ noted-starts : (s : Scheduled) (outputs : List Sent) (reply : Reply) → AreNoSt
 noted-starts s outputs reply h =
     subst (λ (x : Scheduled). AreNoStarts x.duties) (sym (noted-parts s outputs reply)) (answer-starts s.config s.awaited reply s.duties h)
 
-beginning-starts : (config : Shape) (run : ℕ) (draws : List ℕ) (item : Item) → IsNoStartCourse (beginning config run draws item)
-beginning-starts config run draws (Append lane shard replica bytes) = (tt, tt)
-beginning-starts config run draws (Read lane shard replica position) = (tt, tt)
-beginning-starts config run draws (Trim lane position) = (tt, tt)
-beginning-starts config run draws (Add lane shard) = (tt, tt)
-beginning-starts config run draws (Finalise lane shard) = (tt, tt)
+asked-starts : (client : Client) (number : Number) (primary : Option NodeId) → IsNoStartCourse (asked client number primary)
+asked-starts client number None = tt
+asked-starts client number (Some primary) = (tt, tt)
+
+beginning-starts : (config : Shape) (run : ℕ) (draws : List ℕ) (primaries : List (Option NodeId)) (item : Item) → IsNoStartCourse (beginning config run draws primaries item)
+beginning-starts config run draws primaries (Append lane shard replica bytes) = (tt, tt)
+beginning-starts config run draws primaries (Read lane shard replica position) = (tt, tt)
+beginning-starts config run draws primaries (Trim lane position) = (tt, tt)
+beginning-starts config run draws primaries (Add lane shard) = (tt, tt)
+beginning-starts config run draws primaries (Finalise lane shard) = (tt, tt)
+beginning-starts config run draws primaries (AskItem lane) = asked-starts (client_of lane) (last_number run draws lane) (get_or primaries lane None)
 
 taken-starts : (s : Scheduled) (course : Course) → IsNoStartCourse course → AreNoStarts s.duties → AreNoStarts (taken s course).duties
 taken-starts s (Replies reply) starts h = h
@@ -108,8 +115,8 @@ taken-starts s (GoesOn duties) starts h = each-append IsNoStart duties s.duties 
 
 begun-starts : (s : Scheduled) (item : Item) (items : List Item) → AreNoStarts s.duties → AreNoStarts (begun s item items).duties
 begun-starts s item items h =
-    taken-starts (record s { items = items; draws = drawn item s.draws }) (beginning s.config s.run s.draws item)
-    (beginning-starts s.config s.run s.draws item) h
+    taken-starts (entered s item items) (beginning s.config s.run s.draws s.primaries item)
+    (beginning-starts s.config s.run s.draws s.primaries item) h
 
 ready-starts : (s : Scheduled) → AreNoStarts s.duties → AreNoStarts (ready s).duties
 ready-starts s h =

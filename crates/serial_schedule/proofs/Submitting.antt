@@ -8,6 +8,7 @@ use Rattle.std.proofs.lemmas.Nat.{div-mul-add}
 use Rattle.log_base.specs.ClusterShape.{Shape}
 use Rattle.log_base.specs.Draws.{number_of_draw}
 use Rattle.log_base.specs.declared.numbers.Client.{Client}
+use Rattle.log_base.specs.declared.numbers.NodeId.{NodeId}
 use Rattle.log_base.specs.declared.numbers.Number.{Number}
 use Rattle.log_base.specs.declared.numbers.Position.{Position}
 use Rattle.log_base.specs.declared.numbers.Replica.{Replica}
@@ -16,7 +17,7 @@ use Rattle.record_frame.specs.declared.entries.Entry.{Entry}
 use Rattle.record_frame.specs.declared.values.Value.{Value}
 use Rattle.record_frame.specs.Entries.{entry_of}
 use Rattle.command_frame.specs.declared.items.Item.{Item}
-use Rattle.command_frame.specs.declared.items.Item.TheVariants.{Append}
+use Rattle.command_frame.specs.declared.items.Item.TheVariants.{Append, Ask as AskItem}
 use Rattle.command_frame.specs.Items.{IsItem}
 use Rattle.reply_frame.specs.declared.replies.Reply.{Reply, Stored, Down, Elsewhere, Taken, NotLeading, NoLeader}
 use Rattle.history_frame.specs.declared.events.Event.{Event}
@@ -34,11 +35,11 @@ use Rattle.serial_schedule.specs.declared.duties.Duty.TheVariants.{Give, Deliver
 use Rattle.serial_schedule.specs.declared.duties.Signal.{Signal}
 use Rattle.serial_schedule.specs.declared.duties.Signal.TheVariants.{Restart, Lead, Tick}
 use Rattle.serial_schedule.specs.declared.turns.Turn.{Turn}
-use Rattle.serial_schedule.specs.Courses.{client_of, confirmation, course_of, enquiry, reading_at, request}
+use Rattle.serial_schedule.specs.Courses.{asked, client_of, confirmation, course_of, enquiry, last_number, reading_at, request}
 use Rattle.serial_schedule.specs.Driven.{Follow, after_event, after_events, turn_of}
 use Rattle.serial_schedule.specs.Duties.{settling, signal_input}
 use Rattle.serial_schedule.specs.Noting.{course_or_none, duties_with}
-use Rattle.serial_schedule.specs.Scheduling.{Scheduled, Waiting, at_first, begun, delivery, due, first_step, given, is_done, is_idle, next_turn, noted, passed, ready, rest_in, turn_in}
+use Rattle.serial_schedule.specs.Scheduling.{Scheduled, Waiting, at_first, begun, delivery, due, entered, first_step, given, is_done, is_idle, next_turn, noted, passed, ready, rest_in, taken, turn_in}
 use Rattle.serial_schedule.proofs.Along.{followed-along, ready-keeps, some_is}
 use Rattle.serial_schedule.proofs.Kept.{each-append, each-due, noted-parts}
 use Rattle.serial_schedule.proofs.Permitted.{AllPermitted}
@@ -157,6 +158,14 @@ drawn-older : (run : ℕ) (draws : List ℕ) (client : Client) (event : Event) �
 drawn-older run draws client event h =
     λ other e same. let found = h other e in (found.0, found.1, subst (λ (c : Client). found.0 < get_or draws c.0 0) same found.2)
 
+asked-readied : (before : List Event) (s : Scheduled) (client : Client) (number : Number) (primary : Option NodeId)
+    → AllByRecursion (IsDrawn s.run s.draws) before → AllByRecursion IsPlain s.duties → AllPermitted (taken s (asked client number primary))
+    → IsReadied before (taken s (asked client number primary))
+asked-readied before s client number None earlier plain permitted =
+    record { earlier = earlier; first = plain-first s.run s.draws before s.duties plain; permitted = permitted }
+asked-readied before s client number (Some primary) earlier plain permitted =
+    record { earlier = earlier; first = (tt, plain); permitted = permitted }
+
 begun-readied : (before : List Event) (s : Scheduled) (item : Item) (items : List Item) → s.items ≡ item ∷ items → is_idle s ≡ true → IsReadied before s
     → IsReadied before (begun s item items)
 begun-readied before s (Append lane shard replica bytes) items left idle h =
@@ -176,6 +185,9 @@ begun-readied before s (Append lane shard replica bytes) items left idle h =
       );
       permitted = begun-permitted s (Append lane shard replica bytes) items left h.permitted;
     }
+begun-readied before s (AskItem lane) items left idle h =
+    asked-readied before (entered s (AskItem lane) items) (client_of lane) (last_number s.run s.draws lane) (get_or s.primaries lane None)
+    h.earlier (idle-plain s.duties idle) (begun-permitted s (AskItem lane) items left h.permitted)
 begun-readied before s item items left idle h = record {
   earlier = h.earlier;
   first = (tt, idle-plain s.duties idle);

@@ -1,5 +1,5 @@
 -- How an item goes: what is due when it begins, and what an answer means for it.
-use Rattle.std.specs.Prelude.{ℕ, ◌+◌, List, [], ◌∷◌, ◌++◌, nat_lt, if◌then◌else◌, slice_index}
+use Rattle.std.specs.Prelude.{ℕ, ◌+◌, ◌-◌, List, [], ◌∷◌, ◌++◌, nat_lt, if◌then◌else◌, slice_index, slice_index_or, Option, Some, None}
 use Rattle.log_base.specs.ClusterShape.{Shape}
 use Rattle.log_base.specs.Draws.{number_of_draw}
 use Rattle.log_base.specs.declared.numbers.Client.{Client}
@@ -10,8 +10,8 @@ use Rattle.log_base.specs.declared.numbers.Replica.{Replica}
 use Rattle.record_frame.specs.declared.values.Value.{Value}
 use Rattle.record_frame.specs.declared.values.Value.TheVariants.{Add as AddValue, Finalise as FinaliseValue, Trim as TrimValue}
 use Rattle.command_frame.specs.declared.items.Item.{Item}
-use Rattle.command_frame.specs.declared.items.Item.TheVariants.{Append, Read, Trim, Add, Finalise}
-use Rattle.reply_frame.specs.declared.replies.Reply.{Reply, Stored, Down, Elsewhere, Taken, NotLeading, NoLeader}
+use Rattle.command_frame.specs.declared.items.Item.TheVariants.{Append, Read, Trim, Add, Finalise, Ask as AskItem}
+use Rattle.reply_frame.specs.declared.replies.Reply.{Reply, Stored, Down, Elsewhere, Taken, NotLeading, NoLeader, NothingKept}
 use Rattle.history_frame.specs.declared.inputs.Call.TheVariants.{Submit, Ask, Read as ReadCall, Request, Settled}
 use Rattle.node_table.specs.Numbering.{orderer_node, storage_node}
 use Rattle.serial_schedule.specs.declared.duties.Awaited.{Awaited}
@@ -77,13 +77,23 @@ course_of config _ reply = Replies reply
 abbrev pub next_number : ℕ → List ℕ → ℕ → Number
 next_number run draws lane = record { 0 = number_of_draw run (slice_index draws lane) }
 
+-- the number that a lane drew last
+abbrev pub last_number : ℕ → List ℕ → ℕ → Number
+last_number run draws lane = record { 0 = number_of_draw run (slice_index draws lane - 1) }
+
+-- the primary of a lane's last append is asked where it stands; without one nothing is kept
+abbrev pub asked : Client → Number → Option NodeId → Course
+asked client number None = Replies NothingKept
+asked client number (Some primary) = GoesOn (enquiry primary client number ∷ [])
+
 -- How an item begins. An append is submitted to its primary, under the number that its lane draws next. A trim, an addition and a
 -- finalisation are requested of orderer 0.
-abbrev pub beginning : Shape → ℕ → List ℕ → Item → Course
-beginning config run draws (Append lane shard replica bytes) =
+abbrev pub beginning : Shape → ℕ → List ℕ → List (Option NodeId) → Item → Course
+beginning config run draws primaries (Append lane shard replica bytes) =
     GoesOn (submission (record { 0 = storage_node config shard.0 replica.0 }) (client_of lane) (next_number run draws lane) bytes ∷ [])
-beginning config run draws (Read lane shard replica position) =
+beginning config run draws primaries (Read lane shard replica position) =
     GoesOn (reading_at config shard.0 replica (client_of lane) position (Reading replica (client_of lane) position) ∷ [])
-beginning config run draws (Trim lane position) = GoesOn (request config 0 (client_of lane) (TrimValue position) ∷ [])
-beginning config run draws (Add lane shard) = GoesOn (request config 0 (client_of lane) (AddValue shard) ∷ [])
-beginning config run draws (Finalise lane shard) = GoesOn (request config 0 (client_of lane) (FinaliseValue shard) ∷ [])
+beginning config run draws primaries (Trim lane position) = GoesOn (request config 0 (client_of lane) (TrimValue position) ∷ [])
+beginning config run draws primaries (Add lane shard) = GoesOn (request config 0 (client_of lane) (AddValue shard) ∷ [])
+beginning config run draws primaries (Finalise lane shard) = GoesOn (request config 0 (client_of lane) (FinaliseValue shard) ∷ [])
+beginning config run draws primaries (AskItem lane) = asked (client_of lane) (last_number run draws lane) (slice_index_or primaries lane None)

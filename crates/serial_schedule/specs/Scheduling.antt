@@ -1,6 +1,8 @@
 -- The schedule of a run: which node takes which input next, and what follows from what it did.
 use Rattle.std.specs.Prelude.{ℕ, ◌+◌, ◌-◌, List, [], ◌∷◌, ◌++◌, Bool, false, ◌==◌, length, slice_index, slice_set, replicate, if◌then◌else◌, Option, Some, None}
 use Rattle.log_base.specs.ClusterShape.{Shape}
+use Rattle.log_base.specs.declared.numbers.NodeId.{NodeId}
+use Rattle.node_table.specs.Numbering.{storage_node}
 use Rattle.command_frame.specs.declared.items.Item.{Item}
 use Rattle.command_frame.specs.declared.items.Item.TheVariants.{Append}
 use Rattle.reply_frame.specs.declared.replies.Reply.{Reply}
@@ -23,8 +25,8 @@ pub record Waiting : Type 0 where
   pub sent : Sent
 
 -- The schedule: the items that have not begun, what is due before the next of them begins, the letters in the queue, in order of
--- posting, the answer that is awaited, if one is, how many events there were, how many numbers each lane has drawn, and the
--- replies to the items that are done.
+-- posting, the answer that is awaited, if one is, how many events there were, how many numbers each lane has drawn, the primary of
+-- its last append, if it has one, and the replies to the items that are done.
 pub record Scheduled : Type 0 where
   pub config : Shape
   pub run : ℕ
@@ -34,6 +36,7 @@ pub record Scheduled : Type 0 where
   pub awaited : Option Awaited
   pub place : ℕ
   pub draws : List ℕ
+  pub primaries : List (Option NodeId)
   pub replies : List Reply
 
 -- at first the opening is due, and none of the 64 lanes has drawn a number
@@ -47,6 +50,7 @@ at_first config run items = record {
   awaited = None;
   place = 0;
   draws = replicate 64 0;
+  primaries = replicate 64 None;
   replies = [];
 }
 
@@ -62,9 +66,18 @@ abbrev pub drawn : Item → List ℕ → List ℕ
 drawn (Append lane shard replica bytes) draws = slice_set draws lane (slice_index draws lane + 1)
 drawn item draws = draws
 
+-- the primary of an append is its lane's last
+abbrev pub primaries_after : Shape → Item → List (Option NodeId) → List (Option NodeId)
+primaries_after config (Append lane shard replica bytes) primaries = slice_set primaries lane (Some (record { 0 = storage_node config shard.0 replica.0 }))
+primaries_after config item primaries = primaries
+
+-- an item is taken out, and these are left
+abbrev pub entered : Scheduled → Item → List Item → Scheduled
+entered s item items = record s { items = items; draws = drawn item s.draws; primaries = primaries_after s.config item s.primaries }
+
 -- an item begins, and these are left
 abbrev pub begun : Scheduled → Item → List Item → Scheduled
-begun s item items = taken (record s { items = items; draws = drawn item s.draws }) (beginning s.config s.run s.draws item)
+begun s item items = taken (entered s item items) (beginning s.config s.run s.draws s.primaries item)
 
 -- the next item, if there is one, begins
 abbrev pub begun_next : Scheduled → List Item → Scheduled

@@ -1,34 +1,35 @@
 //! How items begin.
 
-ghost use Rattle.std.specs.Prelude.{◌≡◌, ◌≤◌, ◌<◌, [], ◌∷◌, IfOk, replicate, slice_index};
+ghost use Rattle.std.specs.Prelude.{◌≡◌, ◌≤◌, ◌<◌, ◌-◌, [], ◌∷◌, None, IfOk, replicate, slice_index_or};
 ghost use Rattle.log_base.specs.Draws.{number_of_draw};
 ghost use Rattle.log_base.specs.Shape.{shape};
 ghost use Rattle.command_frame.specs.Items.{IsItem};
-ghost use Rattle.serial_schedule.specs.Courses.{beginning, client_of, reading_at, request, submission};
+ghost use Rattle.serial_schedule.specs.Courses.{asked, beginning, client_of, last_number, reading_at, request, submission};
 ghost use Rattle.serial_schedule.specs.Keeping.{HasRoom};
-ghost use Rattle.serial_schedule.specs.Scheduling.{drawn};
+ghost use Rattle.serial_schedule.specs.Scheduling.{drawn, primaries_after};
 
-use crate::calls::{reading, request};
-use crate::courses::Course;
+use crate::calls::{enquiry, reading, request};
+use crate::courses::{Course, goes_on};
 use crate::duties::{Awaited, Duty};
-use command_frame::Item;
+use command_frame::{Item, Reply};
 use history_frame::Call;
 use log_base::{Bytes, Client, Config, Memory, NodeId, Number, Position, Replica, Shard};
 use node_table::storage;
 use record_frame::Value;
 use std::alloc::Global;
 
-/// The call that an item begins with.
-pub fn first_duty(
+/// How an item begins.
+pub fn first_course(
     alloc: Global,
     config: &Config,
     run: u32,
     draws: &[u32; 64],
+    primaries: &[Option<NodeId>; 64],
     item: &Item,
-) -> Result<Duty, Memory>
+) -> Result<Course, Memory>
     requires run { run ≤ 1000000 }
     requires item { IsItem (shape config.now) item.now }
-    ensures { IfOk result (λ duty. Course.GoesOn (duty ∷ []) ≡ beginning (shape config.now) run draws.now item.now) }
+    ensures { IfOk result (λ course. course ≡ beginning (shape config.now) run draws.now primaries.now item.now) }
 {
     match item {
         Item::Append {
@@ -39,7 +40,8 @@ pub fn first_duty(
         } => {
             let primary = storage(config, *shard, *replica);
             let number = next_number(run, draws[usize::from(*lane)]);
-            submission(alloc, primary, client_of(*lane), number, bytes)
+            let duty = submission(alloc, primary, client_of(*lane), number, bytes)?;
+            goes_on(alloc, duty)
         }
         Item::Read {
             lane,
@@ -48,11 +50,13 @@ pub fn first_duty(
             position,
         } => {
             let client = client_of(*lane);
-            Ok(first_reading(config, *shard, *replica, client, *position))
+            let duty = first_reading(config, *shard, *replica, client, *position);
+            goes_on(alloc, duty)
         }
-        Item::Trim { lane, position } => Ok(wish(config, *lane, Value::Trim(*position))),
-        Item::Add { lane, shard } => Ok(wish(config, *lane, Value::Add(*shard))),
-        Item::Finalise { lane, shard } => Ok(wish(config, *lane, Value::Finalise(*shard))),
+        Item::Trim { lane, position } => wish(alloc, config, *lane, Value::Trim(*position)),
+        Item::Add { lane, shard } => wish(alloc, config, *lane, Value::Add(*shard)),
+        Item::Finalise { lane, shard } => wish(alloc, config, *lane, Value::Finalise(*shard)),
+        Item::Ask { lane } => asked(alloc, run, draws, primaries, *lane),
     }
 }
 
@@ -70,6 +74,22 @@ pub fn draw(draws: &mut [u32; 64], item: &Item)
 {
     if let Item::Append { lane, .. } = item {
         draws[usize::from(*lane)] += 1;
+    }
+}
+
+/// The primary of an append is its lane's last.
+pub fn keep_primary(config: &Config, primaries: &mut [Option<NodeId>; 64], item: &Item)
+    requires { IsItem (shape config.now) item.now }
+    ensures { primaries.new ≡ primaries_after (shape config.now) item.now primaries.old }
+{
+    if let Item::Append {
+        lane,
+        shard,
+        replica,
+        ..
+    } = item
+    {
+        primaries[usize::from(*lane)] = Some(storage(config, *shard, *replica));
     }
 }
 
@@ -109,10 +129,37 @@ fn first_reading(
 }
 
 /// A value is requested of orderer 0 on a lane.
-fn wish(config: &Config, lane: u8, value: Value) -> Duty
-    ensures { result ≡ request (shape config.now) 0 (client_of lane) value }
+fn wish(alloc: Global, config: &Config, lane: u8, value: Value) -> Result<Course, Memory>
+    ensures { IfOk result (λ course. course ≡ Course.GoesOn (request (shape config.now) 0 (client_of lane) value ∷ [])) }
 {
-    request(config, 0, client_of(lane), &value)
+    goes_on(alloc, request(config, 0, client_of(lane), &value))
+}
+
+/// The number that was drawn last, after so many draws.
+fn last_number(run: u32, drawn: u32) -> Number
+    requires { run ≤ 1000000 }
+    ensures { result.0 ≡ number_of_draw run (drawn - 1) }
+{
+    next_number(run, drawn.saturating_sub(1))
+}
+
+/// The primary of a lane's last append is asked where it stands, if there is one.
+fn asked(
+    alloc: Global,
+    run: u32,
+    draws: &[u32; 64],
+    primaries: &[Option<NodeId>; 64],
+    lane: u8,
+) -> Result<Course, Memory>
+    requires run { run ≤ 1000000 }
+    requires lane { lane < 64 }
+    ensures { IfOk result (λ course. course ≡ asked (client_of lane) (last_number run draws.now lane) (slice_index_or primaries.now lane None)) }
+{
+    let number = last_number(run, draws[usize::from(lane)]);
+    match primaries[usize::from(lane)] {
+        Some(primary) => goes_on(alloc, enquiry(primary, client_of(lane), number)),
+        None => Ok(Course::Replies(Reply::NothingKept)),
+    }
 }
 
 /// A record is submitted to its primary. Its bytes are copied.

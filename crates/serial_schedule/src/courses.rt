@@ -144,7 +144,7 @@ fn replies(alloc: Global, reply: &Reply) -> Result<Course, Memory>
 }
 
 /// One call is due.
-fn goes_on(alloc: Global, duty: Duty) -> Result<Course, Memory>
+pub fn goes_on(alloc: Global, duty: Duty) -> Result<Course, Memory>
     ensures { IfOk result (λ course. course ≡ Course.GoesOn (duty ∷ [])) }
 {
     let mut duties = Vec::new(alloc);

@@ -1,6 +1,6 @@
 //! What follows from what a node did.
 
-ghost use Rattle.std.specs.Prelude.{◌≡◌, ◌+◌, ◌≤◌, ◌++◌, [], length, map, OnOk, OnErr};
+ghost use Rattle.std.specs.Prelude.{◌≡◌, ◌+◌, ◌≤◌, ◌++◌, [], length, map, Some, OnOk, OnErr};
 ghost use Rattle.std.specs.List.{AllByRecursion};
 ghost use Rattle.std.specs.VecDeque.{deque_capacity, deque_len};
 ghost use Rattle.log_base.specs.Shape.{shape};
@@ -55,7 +55,22 @@ pub fn follow(
     let Some(awaited) = awaited else {
         return Ok(());
     };
-    match course_after(alloc, config, awaited, reply)? {
+    let course = course_after(alloc, config, awaited, reply)?;
+    go_on(course, duties, replies)
+}
+
+/// The item is done, or goes on.
+pub fn go_on(
+    course: Course,
+    duties: &mut VecDeque<Duty>,
+    replies: &mut Vec<Reply>,
+) -> Result<(), Memory>
+    ensures duties { OnOk result (duties.new.items ≡ duties_with (Some course) duties.old.items) }
+    ensures replies { OnOk result (replies.new.items ≡ replies_with (Some course) replies.old.items) }
+    ensures same_duties { OnErr result (duties.new.items ≡ duties.old.items) }
+    ensures same_replies { OnErr result (replies.new.items ≡ replies.old.items) }
+{
+    match course {
         Course::Replies(reply) => {
             replies.push(reply)?;
             Ok(())

@@ -9,10 +9,10 @@ ghost use Rattle.event_letters.specs.Letters.{parcel};
 ghost use Rattle.serial_schedule.specs.Scheduling.{at_first, begun_next, delivery, first_step, given, is_first_done, is_idle, next_turn, noted, passed, ready, rest_in, turn_in};
 ghost use Rattle.serial_schedule.specs.Keeping.{IsGiven, IsSingle};
 
-use crate::beginnings::{draw, first_duty, no_draws};
+use crate::beginnings::{draw, first_course, keep_primary, no_draws};
 use crate::duties::{Awaited, Duty};
 use crate::letters::Letter;
-use crate::noting::{follow, post};
+use crate::noting::{follow, go_on, post};
 use crate::passing::pass_over;
 use crate::rounds::{opening, signal_input};
 use crate::turns::Turn;
@@ -35,6 +35,7 @@ pub struct Schedule<'a> {
     awaited: Option<Awaited>,
     place: u32,
     draws: [u32; 64],
+    primaries: [Option<NodeId>; 64],
     replies: Vec<Reply>,
 }
 
@@ -58,6 +59,7 @@ impl<'a> Model for Schedule<'a> {
       awaited = s.awaited;
       place = s.place;
       draws = s.draws;
+      primaries = s.primaries;
       replies = s.replies.items;
     } };
 
@@ -88,6 +90,7 @@ impl<'a> Schedule<'a> {
             awaited: None,
             place: 0,
             draws: no_draws(),
+            primaries: [None; 64],
             replies: Vec::new(alloc),
         })
     }
@@ -186,10 +189,17 @@ impl<'a> Schedule<'a> {
         ensures err { OnErr result (self.new ≡ self.old) }
     {
         if let Some((item, items)) = self.items.split_first() {
-            self.duties.reserve(1)?;
-            let duty = first_duty(self.alloc, &self.config, self.run, &self.draws, item)?;
-            self.duties.push_front_reserved(duty);
+            let course = first_course(
+                self.alloc,
+                &self.config,
+                self.run,
+                &self.draws,
+                &self.primaries,
+                item,
+            )?;
+            go_on(course, &mut self.duties, &mut self.replies)?;
             draw(&mut self.draws, item);
+            keep_primary(&self.config, &mut self.primaries, item);
             self.items = items;
         }
         Ok(())

@@ -113,6 +113,9 @@ const FINALISED: [Row; 2] = [
     (5, "finalise", Says::NoSuchShard),
 ];
 
+/// The last append of lane 2 is asked for at its primary; lane 1 made none.
+const ASKED_AGAIN: [Row; 1] = [(2, "ask", Says::Missing)];
+
 /// The kind of a value.
 fn kind_of_value(value: &Value) -> &'static str {
     match value {
@@ -221,13 +224,14 @@ fn runs_in_order(alloc: Global, schedule: &mut Schedule<'_>) -> Result<bool, Mem
     let trimmed = asked && are_next(alloc, schedule, &TRIMMED)?;
     let known = trimmed && are_next(alloc, schedule, &SETTLING)?;
     let finalised = known && are_next(alloc, schedule, &FINALISED)?;
-    Ok(finalised && schedule.next()?.is_none())
+    let asked = finalised && are_next(alloc, schedule, &ASKED_AGAIN)?;
+    Ok(asked && schedule.next()?.is_none())
 }
 
 /// The replies to the items.
 const REPLIES: &str =
     "[Settled { slot: Slot(4) }, Trimmed { mark: Position(9) }, Missing, NotAdded, \
-    Settled { slot: Slot(4) }, NoSuchShard]";
+    Settled { slot: Slot(4) }, NoSuchShard, NothingKept, Missing]";
 
 #[test]
 fn items_go_on(rt: HostRuntime) -> Result<(), Fail> {
@@ -247,6 +251,8 @@ fn items_go_on(rt: HostRuntime) -> Result<(), Fail> {
         append(alloc)?,
         Item::Trim { lane, position },
         Item::Finalise { lane, shard },
+        Item::Ask { lane },
+        Item::Ask { lane: 2 },
     ];
     let mut schedule = Schedule::new(alloc, config, 1, &items)?;
     assert!(rt; runs_in_order(alloc, &mut schedule)?);
