@@ -32,7 +32,7 @@ answers_spelled (event ∷ events) h = (reply_spelled event.happened h.0, answer
 
 pub all_replies_spelled : (config : Shape) (run : ℕ) (items : List Item) (events : List Event) → AllByRecursion IsEvent events
     → AllByRecursion HasSpelling (replies_of config run items events)
-all_replies_spelled config run items events h = replies-good HasSpelling (tt, omega arith) config run items events (answers_spelled events h)
+all_replies_spelled config run items events h = replies-good HasSpelling (tt, omega arith) (tt, omega arith) config run items events (answers_spelled events h)
 
 -- the events of a legal history stand at their places
 in_place : (config : Shape) (run : ℕ) (kept : KeptLists) (before events : List Event) → AreNext config run kept before events → InPlace (length before) events

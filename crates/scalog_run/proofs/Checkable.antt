@@ -7,7 +7,7 @@ use Rattle.std.proofs.lemmas.Bool.Decides.{nat_tests}
 use Rattle.std.proofs.lemmas.Grind.{common_steps}
 use Rattle.std.proofs.lemmas.List.{take_all}
 use Rattle.command_frame.specs.declared.items.Item.{Item}
-use Rattle.command_frame.specs.declared.items.Item.TheVariants.{Append, Read, Trim, Add, Finalise}
+use Rattle.command_frame.specs.declared.items.Item.TheVariants.{Append, Read, Trim, Add, Finalise, Ask}
 use Rattle.command_frame.specs.Items.{IsItem}
 use Rattle.reply_frame.specs.declared.replies.Reply.{Reply}
 use Rattle.reply_frame.specs.Replies.{HasSpelling, reply_bytes, reply_spelling}
@@ -59,6 +59,7 @@ lane_fits config (Read lane shard replica position) is = let lane_is = is.0 in o
 lane_fits config (Trim lane position) is = let lane_is = is.0 in omega arith
 lane_fits config (Add lane shard) is = let lane_is = is.0 in omega arith
 lane_fits config (Finalise lane shard) is = let lane_is = is.0 in omega arith
+lane_fits config (Ask lane) is = omega arith
 
 reply_spelled : (lane : ℕ) (reply : Reply) → lane < 256 → HasSpelling reply → ReplyFits reply → Spells Before 0 AReply (reply_spelling lane reply)
 reply_spelled lane reply few is fits = record {
@@ -186,7 +187,7 @@ module _ {D : Type 0} (by : Disks D) (config : Shape) (run : ℕ) (items : List 
       let replies = replies_of config run items history.events in
       let front : AreReplies (length items) (reply_frames items replies) =
       replies_spelled config items replies whole.each is (all_replies_spelled config run items history.events whole.spelled.events)
-      (replies-good ReplyFits tt config run items history.events (answers_fit history.events widths.events)) in
+      (replies-good ReplyFits tt tt config run items history.events (answers_fit history.events widths.events)) in
       let same : reply_frames items replies ≡ reply_frames items (replies_of (shape history.config) history.run items history.events) =
       ap (λ (s : Shape). reply_frames items (replies_of s run items history.events)) (sym whole.config_is)
       ∙ ap (λ (r : ℕ). reply_frames items (replies_of (shape history.config) r items history.events)) (sym whole.run_is) in

@@ -30,6 +30,14 @@ pub(crate) const ADD_APPEND_READ: &[u8] =
 const FINALISED: &[u8] =
     b"\0\0\0\x04\x05\0\0\0\0\0\0\x06\x01\0\0\0\0a\0\0\0\x04\x06\0\0\0\0\0\0\x06\x01\0\0\0\0b\0\0\0\x0d\x02\0\0\0\0\0\0\0\0\0\0\0\0";
 
+// Append "a", Ask, Finalise 0, and Ask on lane 1.
+const ASKED: &[u8] =
+    b"\0\0\0\x06\x01\0\0\0\0a\0\0\0\x02\x07\0\0\0\0\x04\x06\0\0\0\0\0\0\x02\x07\x01";
+
+// Not added, missing, no such shard, and nothing kept.
+const ASKED_ANSWERED: &[u8] =
+    b"\0\0\0\x03\x40\0\x09\0\0\0\x03\x40\0\x0e\0\0\0\x03\x40\0\x12\0\0\0\x03\x40\x01\x18";
+
 // Settled at slot 0, at position 0, settled at slot 2, finalised, and the first record found.
 const FINALISED_ANSWERED: &[u8] =
     b"\0\0\0\x07\x40\0\x14\0\0\0\0\0\0\0\x0b\x40\0\x02\0\0\0\0\0\0\0\0\0\0\0\x07\x40\0\x14\0\0\0\x02\0\0\0\x03\x40\0\x07\0\0\0\x1a\x40\0\x03\0\0\0\0\0\0\0\0\0\0\0\0\0\x01\0\0\0\0\0\0\0\x01a";
@@ -157,6 +165,7 @@ fn inputs_are_answered(rt: HostRuntime) -> Result<(), Fail> {
         ),
         ("a finalised shard", FINALISED, FINALISED_ANSWERED, None),
         ("a trimmed log", TRIMMED, TRIMMED_ANSWERED, None),
+        ("no shard", ASKED, ASKED_ANSWERED, None),
     ];
     for (name, input, replies, events) in table {
         let outcome = run_anew(&rt, &RUN, input)?;

@@ -51,5 +51,6 @@ fn lane_of(item: &Item) -> u8
         Item::Trim { lane, .. } => *lane,
         Item::Add { lane, .. } => *lane,
         Item::Finalise { lane, .. } => *lane,
+        Item::Ask { lane } => *lane,
     }
 }

@@ -1,7 +1,8 @@
 use Rattle.std.proofs.Common.{◌≡◌, map, ap, sym, subst, Ok, arith, ◌∙◌}
 use Rattle.core_step.specs.Standing.{cluster_node}
 use Rattle.quiet_run.specs.declared.outcomes.DriveStop.{DriveStop}
-use Rattle.quiet_run.specs.Running.{StopsWith, job_of}
+use Rattle.quiet_run.specs.Running.{StopsWith, job_of, scheduled_in}
+use Rattle.quiet_run.specs.Standing.{Job}
 use Rattle.quiet_run.specs.Causes.{node_media}
 use Rattle.quiet_run.proofs.Ending.{causes_then, stopped_then, under_way_on}
 use Rattle.quiet_run.proofs.Going.{if_err_with}
@@ -9,6 +10,10 @@ use Rattle.quiet_run.proofs.serving.run_to_end.Goals as goal
 
 pub turns-init : goal.turns-init
 turns-init g c = record { way = c.requires; causes = λ first h. h }
+
+pub go_on-requires-clause-scheduled : goal.go_on-requires-clause-scheduled
+go_on-requires-clause-scheduled g c =
+    c.turns.invariant.way.scheduled ∙ ap (λ (j : Job). scheduled_in j c.turns.running.events.items) (sym c.turns.invariant.way.job_is)
 
 pub turns-preserved : goal.turns-preserved
 turns-preserved g c =
