@@ -216,12 +216,12 @@ pub append_told : (shape : Shape) (run : ℕ) (state : LogState) (lane : ℕ) (s
 append_told shape run state lane shard replica bytes item live is =
     let replicas = shape.replicas in
     let entry = next_entry run state lane bytes in
-    let next = stored replicas (drawn state lane) shard.0 replica.0 entry in
-    let told = stored_position shape (drawn state lane) shard.0 replica.0 entry item.1 item.2 live is in
+    let next = stored replicas (drawn state lane shard.0 replica.0) shard.0 replica.0 entry in
+    let told = stored_position shape (drawn state lane shard.0 replica.0) shard.0 replica.0 entry item.1 item.2 live is in
     let end : Position = record { 0 = (chain_of replicas state.values).end } in
     let place = place_at shard.0 replica.0 (length (entries_of replicas state shard.0 replica.0)) in
     let stands = (position_is_index replicas next.values place told.0).0 told.1 in
-    let is_end : told.0 ≡ end.0 = newest_position shape (drawn state lane) shard.0 replica.0 entry item.1 item.2 live is told.0 stands in
+    let is_end : told.0 ≡ end.0 = newest_position shape (drawn state lane shard.0 replica.0) shard.0 replica.0 entry item.1 item.2 live is told.0 stands in
     let inside = slice_get_within (spell replicas next.values) told.0 place stands in
     let within : end.0 < (chain_of replicas next.values).end = omega (arith, end-chain_of replicas next.values, inside, is_end) in
     let same_mark : (chain_of replicas next.values).mark ≡ (chain_of replicas state.values).mark =
@@ -237,7 +237,7 @@ append_told shape run state lane shard replica bytes item live is =
 pub append_not_added : (shape : Shape) (run : ℕ) (state : LogState) (lane : ℕ) (shard : Shard) (replica : Replica) (bytes : List ℕ)
     → knows shape.replicas state shard.0 ≡ false
     → (reply_to shape run state (Append lane shard replica bytes) ≡ NotAdded)
-    × (after shape run state (Append lane shard replica bytes) ≡ drawn state lane)
+    × (after shape run state (Append lane shard replica bytes) ≡ drawn state lane shard.0 replica.0)
 append_not_added shape run state lane shard replica bytes absent =
     let none : standing_of shape.replicas state shard.0 ≡ None =
     ap found_standing (state_of_not_added (chain_of shape.replicas state.values).shards shard.0 absent) in

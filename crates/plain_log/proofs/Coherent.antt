@@ -21,7 +21,7 @@ use Rattle.log_model.proofs.Growth.{freeze-shard, freeze-covered, length-raised}
 use Rattle.log_model.proofs.Spelled.{covered_of-add, covered_of-finalise}
 use Rattle.log_model.proofs.States.{state_in-map}
 use Rattle.command_frame.specs.declared.items.Item.{Item}
-use Rattle.command_frame.specs.declared.items.Item.TheVariants.{Append, Read, Trim, Add, Finalise}
+use Rattle.command_frame.specs.declared.items.Item.TheVariants.{Append, Read, Trim, Add, Finalise, Ask}
 use Rattle.command_frame.specs.Items.{IsItem}
 use Rattle.plain_log.specs.Coherent.{IsOfShape, IsCoherent, IsCoherentState}
 use Rattle.plain_log.specs.Log.{LogState, start, after, after_entry, state_after, knows, found_standing, standing_of, drawn, stored, with_value, next_entry, cut_of}
@@ -172,7 +172,7 @@ coherent_value shape state value is =
 pub coherent_after : (shape : Shape) (run : ℕ) (state : LogState) (item : Item) → IsItem shape item
     → IsCoherentState shape state → IsCoherentState shape (after shape run state item)
 coherent_after shape run state (Append lane shard replica bytes) item is =
-    coherent_entry shape (drawn state lane) shard.0 replica.0 (next_entry run state lane bytes) (standing_of shape.replicas state shard.0) refl item.2 is
+    coherent_entry shape (drawn state lane shard.0 replica.0) shard.0 replica.0 (next_entry run state lane bytes) (standing_of shape.replicas state shard.0) refl item.2 is
 coherent_after shape run state (Read lane shard replica position) item is = is
 coherent_after shape run state (Trim lane position) item is =
     coherent_value shape state (TrimValue position) (coherent_trimmed shape (chain_of shape.replicas state.values) state.segments position is)
@@ -182,6 +182,7 @@ coherent_after shape run state (Finalise lane shard) item is =
     cond_both (knows shape.replicas state shard.0) (with_value state (FinaliseValue shard)) state (IsCoherentState shape)
     (λ _. coherent_value shape state (FinaliseValue shard) (coherent_finalised shape (chain_of shape.replicas state.values) state.segments shard is))
     (λ _. is)
+coherent_after shape run state (Ask lane) item is = is
 
 pub coherent_state_after : (shape : Shape) (run : ℕ) (state : LogState) (items : List Item) → AllByRecursion (IsItem shape) items
     → IsCoherentState shape state → IsCoherentState shape (state_after shape run state items)

@@ -18,7 +18,7 @@ use Rattle.log_model.proofs.Frozen.{frozen-apply_all, frozen-finalise}
 use Rattle.log_model.proofs.Growth.{mark-apply_all}
 use Rattle.log_model.proofs.States.{state_of_added}
 use Rattle.command_frame.specs.declared.items.Item.{Item}
-use Rattle.command_frame.specs.declared.items.Item.TheVariants.{Append, Read, Trim, Add, Finalise}
+use Rattle.command_frame.specs.declared.items.Item.TheVariants.{Append, Read, Trim, Add, Finalise, Ask}
 use Rattle.reply_frame.specs.declared.replies.Reply.{Settled, NoSuchShard, Trimmed}
 use Rattle.plain_log.specs.Log.{LogState, start, after, after_entry, state_after, knows, found_standing, standing_of, drawn, with_value, next_entry, read_in, reply_to, told_slot}
 use Rattle.plain_log.specs.Wishes.{wished, NoTrim, NoFinalise}
@@ -42,13 +42,14 @@ entry_joins P cuts replicas state shard segment entry (Some Live) = inr (_, cuts
 item_joins : (P : Value → Type 0) → ((lengths : Lengths) → P (Cut lengths)) → (shape : Shape) (run : ℕ) (state : LogState) (item : Item)
     → HasWish P item → Joins P state (after shape run state item)
 item_joins P cuts shape run state (Append lane shard replica bytes) wish =
-    entry_joins P cuts shape.replicas (drawn state lane) shard.0 replica.0 (next_entry run state lane bytes) (standing_of shape.replicas state shard.0)
+    entry_joins P cuts shape.replicas (drawn state lane shard.0 replica.0) shard.0 replica.0 (next_entry run state lane bytes) (standing_of shape.replicas state shard.0)
 item_joins P cuts shape run state (Read lane shard replica position) wish = inl refl
 item_joins P cuts shape run state (Trim lane position) wish = inr (TrimValue position, wish (TrimValue position) refl, refl)
 item_joins P cuts shape run state (Add lane shard) wish = inr (AddValue shard, wish (AddValue shard) refl, refl)
 item_joins P cuts shape run state (Finalise lane shard) wish =
     cond_both (knows shape.replicas state shard.0) (with_value state (FinaliseValue shard)) state (Joins P state)
     (λ _. inr (FinaliseValue shard, wish (FinaliseValue shard) refl, refl)) (λ _. inl refl)
+item_joins P cuts shape run state (Ask lane) wish = inl refl
 
 -- The values after items are those before and more, each a cut or what an item asks for.
 pub items_join : (P : Value → Type 0) → ((lengths : Lengths) → P (Cut lengths)) → (shape : Shape) (run : ℕ) (state : LogState) (items : List Item)
@@ -198,6 +199,7 @@ wish_told shape run state (Finalise lane shard) value wish there =
     (λ is. cond-true known (told_slot state) NoSuchShard is)
     (λ none. absurd (there (cond-false known (told_slot state) NoSuchShard none)))
     (cases_Bool known)
+wish_told shape run state (Ask lane) value wish there = absurd (cc)
 
 -- A value that an item asks for gets the next slot, and stays in it.
 pub wish_settled : (shape : Shape) (run : ℕ) (state : LogState) (item : Item) (value : Value) (slot : Slot) (more : List Item)
@@ -221,6 +223,7 @@ wish_settled shape run state (Finalise lane shard) value slot more wish told =
     let refused : NoSuchShard ≡ Settled slot = sym (cond-false known (told_slot state) NoSuchShard none) ∙ told in
     absurd (cc))
     (cases_Bool known)
+wish_settled shape run state (Ask lane) value slot more wish told = absurd (cc)
 
 -- What a trim gives up stays given up.
 pub trim_stays : (shape : Shape) (run : ℕ) (state : LogState) (lane : ℕ) (below : Position) (more : List Item) (position : Position)

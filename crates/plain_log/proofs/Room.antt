@@ -8,7 +8,7 @@ use Rattle.record_frame.specs.declared.values.Value.TheVariants.{Add as AddValue
 use Rattle.record_frame.specs.declared.entries.Entry.{Entry}
 use Rattle.log_model.specs.Chain.{Standing, Live, Frozen}
 use Rattle.command_frame.specs.declared.items.Item.{Item}
-use Rattle.command_frame.specs.declared.items.Item.TheVariants.{Append, Read, Trim, Add, Finalise}
+use Rattle.command_frame.specs.declared.items.Item.TheVariants.{Append, Read, Trim, Add, Finalise, Ask}
 use Rattle.plain_log.specs.Log.{LogState, start, after, after_entry, knows, standing_of, drawn, stored, with_value, next_entry}
 use Rattle.plain_log.specs.Halting.{after_down}
 use Rattle.plain_log.specs.Room.{HasRoom}
@@ -30,8 +30,8 @@ set_bound (first ∷ rest) zero value (suc k) most small bound = omega (arith, b
 set_bound (first ∷ rest) (suc at) value zero most small bound = omega (arith, bound 0)
 set_bound (first ∷ rest) (suc at) value (suc k) most small bound = set_bound rest at value k most small (λ i. bound (suc i))
 
-room_drawn : (state : LogState) (lane most : ℕ) → HasRoom state most → HasRoom (drawn state lane) (most + 1)
-room_drawn state lane most room = record {
+room_drawn : (state : LogState) (lane shard replica most : ℕ) → HasRoom state most → HasRoom (drawn state lane shard replica) (most + 1)
+room_drawn state lane shard replica most room = record {
   values = omega (arith, room.values);
   draws = λ k. set_bound state.draws lane (slice_index state.draws lane + 1) k most (omega (arith, room.draws lane)) room.draws;
 }
@@ -42,11 +42,11 @@ room_stored replicas state shard segment most entry values draws =
     record { values = omega (arith, values, length-append {A = Value}); draws = draws }
 
 room_entry : (replicas : ℕ) (state : LogState) (lane shard segment most : ℕ) (entry : Entry) (standing : Option Standing) → HasRoom state most
-    → HasRoom (after_entry replicas (drawn state lane) shard segment entry standing) (most + 1)
-room_entry replicas state lane shard segment most entry None room = room_drawn state lane most room
-room_entry replicas state lane shard segment most entry (Some Frozen) room = room_drawn state lane most room
+    → HasRoom (after_entry replicas (drawn state lane shard segment) shard segment entry standing) (most + 1)
+room_entry replicas state lane shard segment most entry None room = room_drawn state lane shard segment most room
+room_entry replicas state lane shard segment most entry (Some Frozen) room = room_drawn state lane shard segment most room
 room_entry replicas state lane shard segment most entry (Some Live) room =
-    room_stored replicas (drawn state lane) shard segment most entry room.values (room_drawn state lane most room).draws
+    room_stored replicas (drawn state lane shard segment) shard segment most entry room.values (room_drawn state lane shard segment most room).draws
 
 -- nothing or one value joins
 room_same : (state : LogState) (most : ℕ) → HasRoom state most → HasRoom state (most + 1)
@@ -65,10 +65,12 @@ room_after shape run state (Add lane shard) most room = room_value state (AddVal
 room_after shape run state (Finalise lane shard) most room =
     cond_both (knows shape.replicas state shard.0) (with_value state (FinaliseValue shard)) state (λ (next : LogState). HasRoom next (most + 1))
     (λ _. room_value state (FinaliseValue shard) most room) (λ _. room_same state most room)
+room_after shape run state (Ask lane) most room = room_same state most room
 
 pub room_down : (shape : Shape) (run : ℕ) (state : LogState) (item : Item) (most : ℕ) → HasRoom state most → HasRoom (after_down shape run state item) (most + 1)
-room_down shape run state (Append lane shard replica bytes) most room = room_drawn state lane most room
+room_down shape run state (Append lane shard replica bytes) most room = room_drawn state lane shard.0 replica.0 most room
 room_down shape run state (Read lane shard replica position) most room = room_same state most room
 room_down shape run state (Trim lane position) most room = room_value state (TrimValue position) most room
 room_down shape run state (Add lane shard) most room = room_value state (AddValue shard) most room
 room_down shape run state (Finalise lane shard) most room = room_after shape run state (Finalise lane shard) most room
+room_down shape run state (Ask lane) most room = room_same state most room

@@ -1,13 +1,14 @@
 -- The log of one thread on a disk that may fail. An append whose put fails is told so, and from then on the replica is
--- down: appends and reads are refused, and additions, finalisations and trims go on, since no disk of the replica keeps them.
+-- down: appends and reads are refused, and so are questions for an append; additions, finalisations and trims go on, since
+-- no disk of the replica keeps them.
 use Rattle.std.specs.Prelude.{◌≡◌, ℕ, List, [], ◌∷◌, ◌++◌, length, take, drop, Bool, false, ◌==◌, ◌&&◌, if◌then◌else◌, Option, Some, None, option_and_then, slice_get, IfSome}
 use Rattle.log_base.specs.ClusterShape.{Shape}
 use Rattle.record_frame.specs.declared.entries.Entry.{Entry}
 use Rattle.log_model.specs.Chain.{Live}
 use Rattle.command_frame.specs.declared.items.Item.{Item}
-use Rattle.command_frame.specs.declared.items.Item.TheVariants.{Append, Read}
-use Rattle.reply_frame.specs.declared.replies.Reply.{Reply, Halted, Down}
-use Rattle.plain_log.specs.Log.{LogState, start, standing_of, drawn, next_entry, after, reply_to, state_after, log_of}
+use Rattle.command_frame.specs.declared.items.Item.TheVariants.{Append, Read, Ask}
+use Rattle.reply_frame.specs.declared.replies.Reply.{Reply, Halted, Down, NothingKept}
+use Rattle.plain_log.specs.Log.{LogState, Primary, start, standing_of, drawn, primary_of, next_entry, after, reply_to, state_after, log_of}
 
 -- the entry of an item is put on the disk: it is an append to a shard that was added and is not finalised
 abbrev pub IsPut : Shape → LogState → Item → Type 0
@@ -21,13 +22,19 @@ appended run state item = None
 
 -- the state after an item that takes the replica down or finds it down: an append draws its number and stores nothing
 abbrev pub after_down : Shape → ℕ → LogState → Item → LogState
-after_down shape run state (Append lane shard replica bytes) = drawn state lane
+after_down shape run state (Append lane shard replica bytes) = drawn state lane shard.0 replica.0
 after_down shape run state item = after shape run state item
+
+-- the reply to one who asks for a lane's last append where the replica is down: without an append it is not asked
+abbrev pub asked_down : Option Primary → Reply
+asked_down None = NothingKept
+asked_down (Some primary) = Down
 
 -- the reply to an item where the replica is down
 abbrev pub reply_down : Shape → ℕ → LogState → Item → Reply
 reply_down shape run state (Append lane shard replica bytes) = Down
 reply_down shape run state (Read lane shard replica position) = Down
+reply_down shape run state (Ask lane) = asked_down (primary_of state lane)
 reply_down shape run state item = reply_to shape run state item
 
 -- the replies to items, one after another, where the replica is down

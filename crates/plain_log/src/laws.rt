@@ -12,8 +12,8 @@ ghost use Rattle.record_frame.specs.declared.entries.Entry.{Entry};
 ghost use Rattle.record_frame.specs.declared.values.Value.{Value};
 ghost use Rattle.log_model.specs.Chain.{Live, Frozen, chain_of};
 ghost use Rattle.command_frame.specs.declared.items.Item.{Item};
-ghost use Rattle.command_frame.specs.declared.items.Item.TheVariants.{Append, Read, Trim, Add, Finalise};
-ghost use Rattle.reply_frame.specs.declared.replies.Reply.{Settled, At, Found, Finalised, Halted, Down, NoSuchShard, NotAdded, PendingRead, Trimmed};
+ghost use Rattle.command_frame.specs.declared.items.Item.TheVariants.{Append, Read, Trim, Add, Finalise, Ask};
+ghost use Rattle.reply_frame.specs.declared.replies.Reply.{Settled, At, Found, Finalised, Halted, Down, NoSuchShard, NotAdded, PendingRead, Trimmed, Stale, Missing, NothingKept};
 ghost use Rattle.command_frame.specs.Items.{IsItem};
 ghost use Rattle.plain_log.specs.Coherent.{IsCoherentState};
 ghost use Rattle.plain_log.specs.Log.{LogState, log_of, start, state_after, replies_from, reply_to, knows, standing_of, drawn, after, next_entry};
@@ -45,6 +45,30 @@ pub fn trimmed_answers()
         ≡ Settled (record { 0 = 0 }) ∷ At (record { 0 = 0 }) ∷ Settled (record { 0 = 2 }) ∷ Trimmed (record { 0 = 1 }) ∷ NoSuchShard ∷ [] }
 {}
 
+/// A lane's last append is found where it stands, also where its shard is finalised since.
+pub fn asked_answers()
+    ensures { log_of smallest 1
+        (Add 0 (record { 0 = 0 }) ∷ Append 0 (record { 0 = 0 }) (record { 0 = 0 }) (97 ∷ []) ∷ Finalise 0 (record { 0 = 0 }) ∷ Ask 0 ∷ [])
+        ≡ Settled (record { 0 = 0 }) ∷ At (record { 0 = 0 }) ∷ Settled (record { 0 = 2 }) ∷ At (record { 0 = 0 }) ∷ [] }
+{}
+
+/// A lane that appended nothing has nothing that is kept, and an append that was refused is not there.
+pub fn missing_answers()
+    ensures { log_of smallest 1
+        (Ask 0 ∷ Append 0 (record { 0 = 0 }) (record { 0 = 0 }) (97 ∷ []) ∷ Ask 0 ∷ Ask 1 ∷ [])
+        ≡ NothingKept ∷ NotAdded ∷ Missing ∷ NothingKept ∷ [] }
+{}
+
+/// An append that is given up is told as stale. A trim goes as far as the log's end.
+pub fn stale_answers()
+    ensures { log_of smallest 1
+        (Add 0 (record { 0 = 0 }) ∷ Append 0 (record { 0 = 0 }) (record { 0 = 0 }) (112 ∷ []) ∷ Append 0 (record { 0 = 0 }) (record { 0 = 0 }) (113 ∷ [])
+        ∷ Append 0 (record { 0 = 0 }) (record { 0 = 0 }) (114 ∷ []) ∷ Trim 0 (record { 0 = 2 }) ∷ Read 0 (record { 0 = 0 }) (record { 0 = 0 }) (record { 0 = 1 })
+        ∷ Trim 0 (record { 0 = 99 }) ∷ Read 0 (record { 0 = 0 }) (record { 0 = 0 }) (record { 0 = 2 }) ∷ Ask 0 ∷ [])
+        ≡ Settled (record { 0 = 0 }) ∷ At (record { 0 = 0 }) ∷ At (record { 0 = 1 }) ∷ At (record { 0 = 2 }) ∷ Settled (record { 0 = 4 })
+        ∷ Trimmed (record { 0 = 2 }) ∷ Settled (record { 0 = 5 }) ∷ Trimmed (record { 0 = 3 }) ∷ Stale (record { 0 = 4294967298 }) ∷ [] }
+{}
+
 /// Each item has one reply.
 pub fn one_reply_each()
     ensures { (shape : Shape) (run : ℕ) (items : List Item) → length (log_of shape run items) ≡ length items }
@@ -61,8 +85,8 @@ pub fn answers_go_on()
 {}
 
 /// Where no put fails, the replies are those of the log of one thread. Where one fails, so are the replies
-/// before it, its own is a halt, and from then on appends and reads find the replica down, and additions,
-/// finalisations and trims are settled as before.
+/// before it, its own is a halt, and from then on appends, reads and questions for an append find the replica
+/// down, and additions, finalisations and trims are settled as before.
 pub fn halt_goes_on()
     ensures none { (shape : Shape) (run : ℕ) (items : List Item) → log_with_halt shape run items None ≡ log_of shape run items }
     ensures each { (shape : Shape) (run : ℕ) (items : List Item) (halt : Option ℕ) → IsHaltOf shape run items halt
@@ -74,6 +98,9 @@ pub fn halt_goes_on()
         (Add 0 (record { 0 = 0 }) ∷ Append 0 (record { 0 = 0 }) (record { 0 = 0 }) (97 ∷ []) ∷ Finalise 0 (record { 0 = 1 }) ∷ Add 0 (record { 0 = 1 })
         ∷ Finalise 0 (record { 0 = 1 }) ∷ Trim 0 (record { 0 = 5 }) ∷ Append 0 (record { 0 = 0 }) (record { 0 = 0 }) (98 ∷ []) ∷ []) (Some 1)
         ≡ Settled (record { 0 = 0 }) ∷ Halted ∷ NoSuchShard ∷ Settled (record { 0 = 1 }) ∷ Settled (record { 0 = 2 }) ∷ Settled (record { 0 = 3 }) ∷ Down ∷ [] }
+    ensures asked { log_with_halt smallest 1
+        (Add 0 (record { 0 = 0 }) ∷ Append 0 (record { 0 = 0 }) (record { 0 = 0 }) (97 ∷ []) ∷ Ask 0 ∷ Ask 1 ∷ []) (Some 1)
+        ≡ Settled (record { 0 = 0 }) ∷ Halted ∷ Down ∷ NothingKept ∷ [] }
 {}
 
 /// In each state that items lead to, the covered length of each segment is the number of its entries.
@@ -120,11 +147,11 @@ pub fn append_is_told()
     ensures finalised { (shape : Shape) (run : ℕ) (state : LogState) (lane : ℕ) (shard : Shard) (replica : Replica) (bytes : List ℕ)
         → let item = Append lane shard replica bytes in
         standing_of shape.replicas state shard.0 ≡ Some Frozen
-        → (reply_to shape run state item ≡ Finalised) × (after shape run state item ≡ drawn state lane) }
+        → (reply_to shape run state item ≡ Finalised) × (after shape run state item ≡ drawn state lane shard.0 replica.0) }
     ensures not_added { (shape : Shape) (run : ℕ) (state : LogState) (lane : ℕ) (shard : Shard) (replica : Replica) (bytes : List ℕ)
         → let item = Append lane shard replica bytes in
         knows shape.replicas state shard.0 ≡ false
-        → (reply_to shape run state item ≡ NotAdded) × (after shape run state item ≡ drawn state lane) }
+        → (reply_to shape run state item ≡ NotAdded) × (after shape run state item ≡ drawn state lane shard.0 replica.0) }
 {}
 
 /// A shard that was added is live until an item finalises it, and is finalised from then on.

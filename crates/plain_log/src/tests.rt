@@ -6,6 +6,9 @@ fn laws_hold(_rt: HostRuntime) -> Result<(), Fail> {
     first_answers();
     finalised_answers();
     trimmed_answers();
+    asked_answers();
+    missing_answers();
+    stale_answers();
     one_reply_each();
     answers_go_on();
     halt_goes_on();
