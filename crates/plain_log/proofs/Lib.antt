@@ -1,7 +1,11 @@
 pub mod Answering
+pub mod Asking
 pub mod Coherent
+pub mod Enquiries
 pub mod Joining
+pub mod LastAppends
 pub mod Lists
+pub mod Pairs
 pub mod Room
 pub mod Sequence
 pub mod Sizes

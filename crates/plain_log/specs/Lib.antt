@@ -1,5 +1,6 @@
 pub mod Coherent
 pub mod Halting
+pub mod Lanes
 pub mod Log
 pub mod Room
 pub mod Smallest

@@ -1,5 +1,5 @@
 -- The values that items ask for.
-use Rattle.std.specs.Prelude.{◌≢◌, List, Option, Some, None}
+use Rattle.std.specs.Prelude.{◌≡◌, ◌≢◌, ◌≤◌, List, Option, Some, None}
 use Rattle.std.specs.List.{AllByRecursion}
 use Rattle.log_base.specs.declared.numbers.Position.{Position}
 use Rattle.log_base.specs.declared.numbers.Shard.{Shard}
@@ -25,6 +25,10 @@ IsNoTrim item = (position : Position) → wished item ≢ Some (TrimValue positi
 abbrev pub IsNoFinalise : Shard → Item → Type 0
 IsNoFinalise shard item = wished item ≢ Some (FinaliseValue shard)
 
+-- an item is no trim that goes past this position
+abbrev pub IsNoTrimPast : Position → Item → Type 0
+IsNoTrimPast position item = (below : Position) → wished item ≡ Some (TrimValue below) → below.0 ≤ position.0
+
 -- no item is a trim
 abbrev pub NoTrim : List Item → Type 0
 NoTrim items = AllByRecursion IsNoTrim items
@@ -32,3 +36,7 @@ NoTrim items = AllByRecursion IsNoTrim items
 -- no item finalises this shard
 abbrev pub NoFinalise : Shard → List Item → Type 0
 NoFinalise shard items = AllByRecursion (IsNoFinalise shard) items
+
+-- no item is a trim that goes past this position
+abbrev pub NoTrimPast : Position → List Item → Type 0
+NoTrimPast position items = AllByRecursion (IsNoTrimPast position) items

@@ -16,10 +16,11 @@ ghost use Rattle.command_frame.specs.declared.items.Item.TheVariants.{Append, Re
 ghost use Rattle.reply_frame.specs.declared.replies.Reply.{Settled, At, Found, Finalised, Halted, Down, NoSuchShard, NotAdded, PendingRead, Trimmed, Stale, Missing, NothingKept};
 ghost use Rattle.command_frame.specs.Items.{IsItem};
 ghost use Rattle.plain_log.specs.Coherent.{IsCoherentState};
+ghost use Rattle.plain_log.specs.Lanes.{NoAppendOf};
 ghost use Rattle.plain_log.specs.Log.{LogState, log_of, start, state_after, replies_from, reply_to, knows, standing_of, drawn, after, next_entry};
 ghost use Rattle.plain_log.specs.Halting.{log_with_halt, IsHaltOf};
 ghost use Rattle.plain_log.specs.Smallest.{smallest, two_shards};
-ghost use Rattle.plain_log.specs.Wishes.{wished, NoTrim, NoFinalise};
+ghost use Rattle.plain_log.specs.Wishes.{wished, NoTrim, NoFinalise, NoTrimPast};
 
 /// An addition, an append and a read, answered.
 pub fn first_answers()
@@ -152,6 +153,53 @@ pub fn append_is_told()
         → let item = Append lane shard replica bytes in
         knows shape.replicas state shard.0 ≡ false
         → (reply_to shape run state item ≡ NotAdded) × (after shape run state item ≡ drawn state lane shard.0 replica.0) }
+{}
+
+/// While no other append of its lane follows, one who asks for an append that was told its position is told it
+/// again until a trim passes it, and then that it is stale. An append that was refused is missing, and a lane
+/// without an append has nothing kept.
+pub fn ask_is_told()
+    ensures told { (shape : Shape) (run : ℕ) (items more : List Item) (lane : ℕ) (shard : Shard) (replica : Replica) (bytes : List ℕ) (position : Position)
+        → let state = state_after shape run (start shape) items in
+        let item = Append lane shard replica bytes in
+        let later = state_after shape run (after shape run state item) more in
+        AllByRecursion (IsItem shape) items
+        → IsItem shape item
+        → reply_to shape run state item ≡ At position
+        → NoAppendOf lane more
+        → NoTrimPast position more
+        → reply_to shape run later (Ask lane) ≡ At position }
+    ensures kept { (shape : Shape) (run : ℕ) (items more : List Item) (lane : ℕ) (shard : Shard) (replica : Replica) (bytes : List ℕ) (position : Position)
+        → let state = state_after shape run (start shape) items in
+        let item = Append lane shard replica bytes in
+        let later = state_after shape run (after shape run state item) more in
+        AllByRecursion (IsItem shape) items
+        → IsItem shape item
+        → reply_to shape run state item ≡ At position
+        → NoAppendOf lane more
+        → (chain_of shape.replicas later.values).mark ≤ position.0
+        → reply_to shape run later (Ask lane) ≡ At position }
+    ensures given_up { (shape : Shape) (run : ℕ) (items more : List Item) (lane : ℕ) (shard : Shard) (replica : Replica) (bytes : List ℕ) (position : Position)
+        → let state = state_after shape run (start shape) items in
+        let item = Append lane shard replica bytes in
+        let later = state_after shape run (after shape run state item) more in
+        AllByRecursion (IsItem shape) items
+        → IsItem shape item
+        → reply_to shape run state item ≡ At position
+        → NoAppendOf lane more
+        → position.0 < (chain_of shape.replicas later.values).mark
+        → reply_to shape run later (Ask lane) ≡ Stale (next_entry run state lane bytes).number }
+    ensures refused { (shape : Shape) (run : ℕ) (items more : List Item) (lane : ℕ) (shard : Shard) (replica : Replica) (bytes : List ℕ)
+        → let state = state_after shape run (start shape) items in
+        let item = Append lane shard replica bytes in
+        let later = state_after shape run (after shape run state item) more in
+        AllByRecursion (IsItem shape) items
+        → IsItem shape item
+        → standing_of shape.replicas state shard.0 ≢ Some Live
+        → NoAppendOf lane more
+        → reply_to shape run later (Ask lane) ≡ Missing }
+    ensures nothing { (shape : Shape) (run : ℕ) (items : List Item) (lane : ℕ) → NoAppendOf lane items
+        → reply_to shape run (state_after shape run (start shape) items) (Ask lane) ≡ NothingKept }
 {}
 
 /// A shard that was added is live until an item finalises it, and is finalised from then on.

@@ -15,6 +15,7 @@ fn laws_hold(_rt: HostRuntime) -> Result<(), Fail> {
     entries_are_covered();
     read_finds_entry();
     append_is_told();
+    ask_is_told();
     live_until_finalised();
     wishes_are_settled();
     trim_gives_up();
