@@ -1,6 +1,6 @@
 -- The log of one thread on a disk that may fail. An append whose put fails is told so, and from then on the replica is
--- down: appends and reads are refused, and so are questions for an append; additions, finalisations and trims go on, since
--- no disk of the replica keeps them.
+-- down: appends, reads and questions about a last append are refused. Additions, finalisations and trims go on, since no
+-- disk of the replica keeps them.
 use Rattle.std.specs.Prelude.{◌≡◌, ℕ, List, [], ◌∷◌, ◌++◌, length, take, drop, Bool, false, ◌==◌, ◌&&◌, if◌then◌else◌, Option, Some, None, option_and_then, slice_get, IfSome}
 use Rattle.log_base.specs.ClusterShape.{Shape}
 use Rattle.record_frame.specs.declared.entries.Entry.{Entry}

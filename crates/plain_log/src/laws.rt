@@ -86,7 +86,7 @@ pub fn answers_go_on()
 {}
 
 /// Where no put fails, the replies are those of the log of one thread. Where one fails, so are the replies
-/// before it, its own is a halt, and from then on appends, reads and questions for an append find the replica
+/// before it, its own is a halt, and from then on appends, reads and questions about a last append find the replica
 /// down, and additions, finalisations and trims are settled as before.
 pub fn halt_goes_on()
     ensures none { (shape : Shape) (run : ℕ) (items : List Item) → log_with_halt shape run items None ≡ log_of shape run items }
