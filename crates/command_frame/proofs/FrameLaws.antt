@@ -4,10 +4,10 @@ use Rattle.std.proofs.lemmas.List.{take_at, drop_at, take_all}
 use Rattle.std.proofs.KnownBytes.{Consumes-trans}
 use Rattle.std.specs.Io.KnownBytes.{Consumes, IsAtEnd}
 use Rattle.log_base.specs.ClusterShape.{Shape, InRange}
-use Rattle.log_base.specs.Wide.{IsBytes, be2, be4, number4}
+use Rattle.log_base.specs.Wide.{IsBytes, be2, be4, be8, number4}
 use Rattle.log_base.proofs.Wide.{length-be4, length-be8, number4-be4, be4-number4, IsBytes-drop}
 use Rattle.command_frame.specs.declared.items.Item.{Item}
-use Rattle.command_frame.specs.declared.items.Item.TheVariants.{Append, Read, Trim, Add, Finalise, Ask}
+use Rattle.command_frame.specs.declared.items.Item.TheVariants.{Append, Read, Subscribe, Trim, Add, Finalise, Ask}
 use Rattle.reply_frame.specs.Frames.{frame}
 use Rattle.command_frame.specs.Items.{item_kind, item_body, item_spelling, IsItem}
 use Rattle.reply_frame.proofs.FrameLaws.{frame-behind, frame-number, one_frame}
@@ -21,6 +21,8 @@ pub length-item_body : (c : Shape) (item : Item) → IsItem c item → length (i
 unfolding be2
 length-item_body c (Append lane shard replica bytes) is = let size = is.3 in omega arith
 length-item_body c (Read lane shard replica position) is = omega (arith, length-be8 position.0)
+length-item_body c (Subscribe lane shard replica from count) is =
+    omega (arith, length-append (be8 from.0) (be2 count), length-be8 from.0)
 length-item_body c (Trim lane position) is = omega (arith, length-be8 position.0)
 length-item_body c (Add lane shard) is = omega arith
 length-item_body c (Finalise lane shard) is = omega arith

@@ -1,15 +1,16 @@
 -- What is read from a body is spelled so, and what is spelled is read again.
-use Rattle.std.proofs.Common.{◌≡◌, ℕ, ◌<◌, ◌≤◌, ◌^◌, Bool, true, false, ◌&&◌, List, [], ◌∷◌, ◌++◌, length, drop, get_or, ltb, leb, eqb, cond, Option, Some, None, refl, sym, ap, ◌∙◌, subst, append-nil, arith}
+use Rattle.std.proofs.Common.{◌≡◌, ℕ, ◌<◌, ◌≤◌, ◌^◌, Bool, true, false, ◌&&◌, List, [], ◌∷◌, ◌++◌, length, length-append, drop, get_or, ltb, leb, eqb, cond, Option, Some, None, refl, sym, ap, ◌∙◌, subst, append-nil, arith}
 use Rattle.std.proofs.lemmas.Bool.{and_parts, and_from, ltb-true, leb-true, eqb-true, lt-ltb, le-leb, eq-eqb, cond-true}
 use Rattle.std.proofs.lemmas.Option.{cond_some}
 use Rattle.std.proofs.lemmas.List.{length-drop, take_all}
+use Rattle.log_base.proofs.Cuts.{drop-split}
 use Rattle.log_base.specs.ClusterShape.{Shape, InRange}
 use Rattle.log_base.specs.Wide.{IsBytes, be2, be8, number2, number8}
 use Rattle.log_base.proofs.Wide.{length-be8, number2-be2, number8-be8, be2-number2, be8-number8, number8-lt, IsBytes-drop}
 use Rattle.command_frame.specs.declared.items.Item.{Item}
-use Rattle.command_frame.specs.declared.items.Item.TheVariants.{Append, Read, Trim, Add, Finalise, Ask}
+use Rattle.command_frame.specs.declared.items.Item.TheVariants.{Append, Read, Subscribe, Trim, Add, Finalise, Ask}
 use Rattle.command_frame.specs.Items.{item_kind, item_body, IsItem, Spells}
-use Rattle.command_frame.specs.Reading.{names_shard, names_replica, append_of, read_of, trim_of, add_of, finalise_of, ask_of, item_of}
+use Rattle.command_frame.specs.Reading.{names_shard, names_replica, append_of, read_of, subscribe_of, trim_of, add_of, finalise_of, ask_of, item_of}
 
 -- ---- what is read is spelled so
 
@@ -30,6 +31,11 @@ four_front (a ∷ b ∷ c ∷ d ∷ rest) h l = ap (λ (two : List ℕ). a ∷ t
 eight_rest : (body : List ℕ) → IsBytes body → length body ≡ 12 → drop 4 body ≡ be8 (number8 body 4)
 eight_rest body h l =
     sym (be8-number8 body 4 h (omega arith) ∙ take_all 8 (drop 4 body) (omega (arith, length-drop 4 body)))
+
+ten_rest : (body : List ℕ) → IsBytes body → length body ≡ 14 → drop 4 body ≡ be8 (number8 body 4) ++ be2 (number2 body 12)
+ten_rest body h l =
+    let two : drop 12 body ≡ be2 (number2 body 12) = sym (be2-number2 body 12 h (omega arith) ∙ take_all 2 (drop 12 body) (omega (arith, length-drop 12 body))) in
+    drop-split body 4 8 ∙ ap (λ (eight : List ℕ). eight ++ drop 12 body) (sym (be8-number8 body 4 h (omega arith))) ∙ ap (λ (rest : List ℕ). be8 (number8 body 4) ++ rest) two
 
 nine_front : (body : List ℕ) → IsBytes body → length body ≡ 9 → body ≡ get_or body 0 0 ∷ be8 (number8 body 1)
 nine_front [] h l = absurd (omega arith)
@@ -71,6 +77,23 @@ read_takes c body item h e =
       of_kind = refl;
       with_body = front;
       is_item = (ltb-true _ 64 lane.0, ltb-true _ _ lane.1, ltb-true _ _ named.1, number8-lt body 4 h);
+    })
+
+subscribe_takes : (c : Shape) (body : List ℕ) (item : Item) → IsBytes body → subscribe_of c body ≡ Some item → Spells c 3 body item
+unfolding subscribe_of
+subscribe_takes c body item h e =
+    let found = cond_some (eqb (length body) 14 && names_replica c body && leb 1 (number2 body 12) && leb (number2 body 12) 4096) _ _ e in
+    let most = and_parts (eqb (length body) 14 && names_replica c body && leb 1 (number2 body 12)) _ found.0 in
+    let least = and_parts (eqb (length body) 14 && names_replica c body) _ most.0 in
+    let long = and_parts (eqb (length body) 14) _ least.0 in
+    let named = and_parts (names_shard c body) _ long.1 in
+    let lane = and_parts (ltb (get_or body 0 0) 64) _ named.0 in
+    let fourteen : length body ≡ 14 = eqb-true _ 14 long.0 in
+    let front = four_front body h (omega arith) ∙ ap (λ (l : List ℕ). get_or body 0 0 ∷ be2 (number2 body 1) ++ get_or body 3 0 ∷ l) (ten_rest body h fourteen) in
+    subst (Spells c 3 body) found.1 (record {
+      of_kind = refl;
+      with_body = front;
+      is_item = (ltb-true _ 64 lane.0, ltb-true _ _ lane.1, ltb-true _ _ named.1, number8-lt body 4 h, leb-true 1 _ least.1, leb-true _ 4096 most.1);
     })
 
 trim_takes : (c : Shape) (body : List ℕ) (item : Item) → IsBytes body → trim_of body ≡ Some item → Spells c 4 body item
@@ -133,10 +156,11 @@ unfolding item_of
 item_takes c kind body item h =
     one_kind c kind 1 body item (append_of c body) _ (append_takes c body item h)
     (one_kind c kind 2 body item (read_of c body) _ (read_takes c body item h)
+    (one_kind c kind 3 body item (subscribe_of c body) _ (subscribe_takes c body item h)
     (one_kind c kind 4 body item (trim_of body) _ (trim_takes c body item h)
     (one_kind c kind 5 body item (add_of c body) _ (add_takes c body item h)
     (one_kind c kind 6 body item (finalise_of c body) _ (finalise_takes c body item h)
-    (one_kind c kind 7 body item (ask_of body) _ (ask_takes c body item) (λ e. cc))))))
+    (one_kind c kind 7 body item (ask_of body) _ (ask_takes c body item) (λ e. cc)))))))
 
 -- ---- what is spelled is read again
 
@@ -181,6 +205,33 @@ read_again c lane shard replica position range l s r p =
     read_found c (lane ∷ be2 shard ++ replica ∷ be8 position) (omega (arith, length-be8 position)) (and_from _ _ named.1 (lt-ltb _ _ r))
     ∙ ap (λ (n : ℕ). Some (Read lane (record { 0 = n }) (record { 0 = replica }) (record { 0 = number8 (lane ∷ be2 shard ++ replica ∷ be8 position) 4 }))) named.0
     ∙ ap (λ (n : ℕ). Some (Read lane (record { 0 = shard }) (record { 0 = replica }) (record { 0 = n }))) place
+
+subscribe_found : (c : Shape) (body : List ℕ) → length body ≡ 14 → names_replica c body ≡ true → 1 ≤ number2 body 12 → number2 body 12 ≤ 4096
+    → subscribe_of c body
+    ≡ Some (Subscribe (get_or body 0 0) (record { 0 = number2 body 1 }) (record { 0 = get_or body 3 0 }) (record { 0 = number8 body 4 }) (number2 body 12))
+unfolding subscribe_of
+subscribe_found c body size named least most =
+    let front = and_from (eqb (length body) 14) (names_replica c body) (eq-eqb (length body) 14 size) named in
+    cond-true (eqb (length body) 14 && names_replica c body && leb 1 (number2 body 12) && leb (number2 body 12) 4096) _ _
+    (and_from _ _ (and_from _ _ front (le-leb 1 (number2 body 12) least)) (le-leb (number2 body 12) 4096 most))
+
+subscribe_again : (c : Shape) (lane shard replica position count : ℕ) → InRange c → lane < 64 → shard < c.shards → replica < c.replicas
+    → position < 2 ^ 64 → 1 ≤ count → count ≤ 4096
+    → subscribe_of c (lane ∷ be2 shard ++ replica ∷ (be8 position ++ be2 count))
+    ≡ Some (Subscribe lane (record { 0 = shard }) (record { 0 = replica }) (record { 0 = position }) count)
+unfolding be2
+subscribe_again c lane shard replica position count range l s r p least most =
+    let body : List ℕ = lane ∷ be2 shard ++ replica ∷ (be8 position ++ be2 count) in
+    let named = names_shard_again c lane shard (replica ∷ (be8 position ++ be2 count)) range l s in
+    let place : number8 body 4 ≡ position = number8-be8 position 4 (lane ∷ be2 shard ++ replica ∷ []) (be2 count) refl p in
+    let at_end : number2 (lane ∷ be2 shard ++ replica ∷ (be8 position ++ (be2 count ++ []))) 12 ≡ count =
+    number2-be2 count 12 (lane ∷ be2 shard ++ replica ∷ be8 position) [] (omega (arith, length-be8 position)) (omega arith) in
+    let wanted : number2 body 12 ≡ count =
+    subst (λ (two : List ℕ). number2 (lane ∷ be2 shard ++ replica ∷ (be8 position ++ two)) 12 ≡ count) (append-nil (be2 count)) at_end in
+    subscribe_found c body (omega (arith, length-append (be8 position) (be2 count), length-be8 position)) (and_from _ _ named.1 (lt-ltb _ _ r)) (omega arith) (omega arith)
+    ∙ ap (λ (n : ℕ). Some (Subscribe lane (record { 0 = n }) (record { 0 = replica }) (record { 0 = number8 body 4 }) (number2 body 12))) named.0
+    ∙ ap (λ (n : ℕ). Some (Subscribe lane (record { 0 = shard }) (record { 0 = replica }) (record { 0 = n }) (number2 body 12))) place
+    ∙ ap (λ (n : ℕ). Some (Subscribe lane (record { 0 = shard }) (record { 0 = replica }) (record { 0 = position }) n)) wanted
 
 trim_found : (body : List ℕ) → length body ≡ 9 → get_or body 0 0 < 64
     → trim_of body ≡ Some (Trim (get_or body 0 0) (record { 0 = number8 body 1 }))
@@ -231,6 +282,8 @@ pub item_again : (c : Shape) (item : Item) → InRange c → IsItem c item → i
 unfolding item_of
 item_again c (Append lane shard replica bytes) range is = append_again c lane shard.0 replica.0 bytes range is.0 is.1 is.2 is.3
 item_again c (Read lane shard replica position) range is = read_again c lane shard.0 replica.0 position.0 range is.0 is.1 is.2 is.3
+item_again c (Subscribe lane shard replica from count) range is =
+    subscribe_again c lane shard.0 replica.0 from.0 count range is.0 is.1 is.2 is.3 is.4 is.5
 item_again c (Trim lane position) range is = trim_again lane position.0 is.0 is.1
 item_again c (Add lane shard) range is = add_again c lane shard.0 range is.0 is.1
 item_again c (Finalise lane shard) range is = finalise_again c lane shard.0 range is.0 is.1

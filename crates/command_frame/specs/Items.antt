@@ -3,13 +3,14 @@ use Rattle.std.specs.Prelude.{◌≡◌, ℕ, ◌+◌, ◌<◌, ◌≤◌, ◌^�
 use Rattle.log_base.specs.ClusterShape.{Shape}
 use Rattle.log_base.specs.Wide.{IsBytes, be2, be8}
 use Rattle.command_frame.specs.declared.items.Item.{Item}
-use Rattle.command_frame.specs.declared.items.Item.TheVariants.{Append, Read, Trim, Add, Finalise, Ask}
+use Rattle.command_frame.specs.declared.items.Item.TheVariants.{Append, Read, Subscribe, Trim, Add, Finalise, Ask}
 use Rattle.reply_frame.specs.Frames.{frame}
 
 -- the kind of an item's frame, and its body
 abbrev pub item_kind : Item → ℕ
 item_kind (Append lane shard replica bytes) = 1
 item_kind (Read lane shard replica position) = 2
+item_kind (Subscribe lane shard replica from count) = 3
 item_kind (Trim lane position) = 4
 item_kind (Add lane shard) = 5
 item_kind (Finalise lane shard) = 6
@@ -18,6 +19,7 @@ item_kind (Ask lane) = 7
 abbrev pub item_body : Item → List ℕ
 item_body (Append lane shard replica bytes) = lane ∷ be2 shard.0 ++ replica.0 ∷ bytes
 item_body (Read lane shard replica position) = lane ∷ be2 shard.0 ++ replica.0 ∷ be8 position.0
+item_body (Subscribe lane shard replica from count) = lane ∷ be2 shard.0 ++ replica.0 ∷ (be8 from.0 ++ be2 count)
 item_body (Trim lane position) = lane ∷ be8 position.0
 item_body (Add lane shard) = lane ∷ be2 shard.0
 item_body (Finalise lane shard) = lane ∷ be2 shard.0
@@ -27,13 +29,15 @@ item_body (Ask lane) = lane ∷ []
 abbrev pub item_spelling : Item → List ℕ
 item_spelling item = frame (item_kind item) (item_body item)
 
--- the numbers of an item of a config are in range: 64 lanes, the shards and replicas that there are, and at
--- most 65,535 bytes in a record
+-- the numbers of an item of a config are in range: 64 lanes, the shards and replicas that there are, at most 65,535
+-- bytes in a record, and 1 to 4,096 entries that are wanted
 abbrev pub IsItem : Shape → Item → Type 0
 IsItem shape (Append lane shard replica bytes) =
     (lane < 64) × (shard.0 < shape.shards) × (replica.0 < shape.replicas) × (length bytes ≤ 65535) × IsBytes bytes
 IsItem shape (Read lane shard replica position) =
     (lane < 64) × (shard.0 < shape.shards) × (replica.0 < shape.replicas) × (position.0 < 2 ^ 64)
+IsItem shape (Subscribe lane shard replica from count) =
+    (lane < 64) × (shard.0 < shape.shards) × (replica.0 < shape.replicas) × (from.0 < 2 ^ 64) × (1 ≤ count) × (count ≤ 4096)
 IsItem shape (Trim lane position) = (lane < 64) × (position.0 < 2 ^ 64)
 IsItem shape (Add lane shard) = (lane < 64) × (shard.0 < shape.shards)
 IsItem shape (Finalise lane shard) = (lane < 64) × (shard.0 < shape.shards)
@@ -57,6 +61,7 @@ none_yet = record { items = 0; record_bytes = 0 }
 abbrev pub record_bytes_of : Item → ℕ
 record_bytes_of (Append lane shard replica bytes) = length bytes
 record_bytes_of (Read lane shard replica position) = 0
+record_bytes_of (Subscribe lane shard replica from count) = 0
 record_bytes_of (Trim lane position) = 0
 record_bytes_of (Add lane shard) = 0
 record_bytes_of (Finalise lane shard) = 0

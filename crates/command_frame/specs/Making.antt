@@ -1,11 +1,9 @@
 -- The items that are made from a seed. A number is moved on before each item, and the item in a place is a function
 -- of its place and of that number.
-use Rattle.std.specs.Prelude.{ℕ, zero, suc, ◌+◌, ◌*◌, ◌/◌, ◌%◌, ◌^◌, List, ◌∷◌, ◌++◌, map, nat_lt, ◌==◌, if◌then◌else◌}
+use Rattle.std.specs.Prelude.{ℕ, zero, suc, ◌+◌, ◌*◌, ◌/◌, ◌%◌, ◌^◌, List, map, nat_lt, ◌==◌, if◌then◌else◌}
 use Rattle.std.specs.List.{flat_map, range_with_len}
 use Rattle.log_base.specs.ClusterShape.{Shape}
-use Rattle.log_base.specs.Wide.{be2, be8}
-use Rattle.command_frame.specs.declared.items.Item.TheVariants.{Append, Read, Add}
-use Rattle.reply_frame.specs.Frames.{frame}
+use Rattle.command_frame.specs.declared.items.Item.TheVariants.{Append, Read, Subscribe, Add}
 use Rattle.command_frame.specs.Items.{item_spelling}
 
 -- the number after this one
@@ -42,16 +40,12 @@ drawn_record place draw = map (letter place) (range_with_len 0 (1 + (draw / 1024
 abbrev pub drawn_position : ℕ → ℕ → ℕ
 drawn_position place draw = (draw / 8) % (place + 1)
 
--- the frame of a subscription: a lane, a shard, a replica, the first position and how many are wanted
-abbrev pub subscription : ℕ → ℕ → ℕ → ℕ → ℕ → List ℕ
-subscription lane shard replica from count = frame 3 (lane ∷ be2 shard ++ replica ∷ (be8 from ++ be2 count))
-
 -- the item in a place: of eight, six are appends, one is a read, and one a subscription to four entries
 unfoldable pub made_item : Shape → ℕ → ℕ → List ℕ
 made_item shape place draw =
     if nat_lt (draw % 8) 6 then item_spelling (Append (drawn_lane draw) (record { 0 = drawn_shard shape draw }) (record { 0 = drawn_replica shape draw }) (drawn_record place draw))
     else if draw % 8 == 6 then item_spelling (Read (drawn_lane draw) (record { 0 = drawn_shard shape draw }) (record { 0 = drawn_replica shape draw }) (record { 0 = drawn_position place draw }))
-    else subscription (drawn_lane draw) (drawn_shard shape draw) (drawn_replica shape draw) (drawn_position place draw) 4
+    else item_spelling (Subscribe (drawn_lane draw) (record { 0 = drawn_shard shape draw }) (record { 0 = drawn_replica shape draw }) (record { 0 = drawn_position place draw }) 4)
 
 -- the addition of a shard on lane 0
 abbrev pub addition : ℕ → List ℕ

@@ -3,7 +3,7 @@ use Rattle.std.specs.Prelude.{ℕ, Bool, List, length, drop, slice_index, nat_lt
 use Rattle.log_base.specs.ClusterShape.{Shape}
 use Rattle.log_base.specs.Wide.{number2, number8}
 use Rattle.command_frame.specs.declared.items.Item.{Item}
-use Rattle.command_frame.specs.declared.items.Item.TheVariants.{Append, Read, Trim, Add, Finalise, Ask}
+use Rattle.command_frame.specs.declared.items.Item.TheVariants.{Append, Read, Subscribe, Trim, Add, Finalise, Ask}
 
 -- the body's lane is one of 64, and its shard is one of the config
 abbrev pub names_shard : Shape → List ℕ → Bool
@@ -25,6 +25,13 @@ unfoldable pub read_of : Shape → List ℕ → Option Item
 read_of shape body =
     if length body == 12 && names_replica shape body
     then Some (Read (slice_index body 0) (record { 0 = number2 body 1 }) (record { 0 = slice_index body 3 }) (record { 0 = number8 body 4 }))
+    else None
+
+-- a lane, a shard, a replica, a position and 1 to 4,096 entries that are wanted, and no more
+unfoldable pub subscribe_of : Shape → List ℕ → Option Item
+subscribe_of shape body =
+    if length body == 14 && names_replica shape body && nat_le 1 (number2 body 12) && nat_le (number2 body 12) 4096
+    then Some (Subscribe (slice_index body 0) (record { 0 = number2 body 1 }) (record { 0 = slice_index body 3 }) (record { 0 = number8 body 4 }) (number2 body 12))
     else None
 
 -- a lane and a position, and no more
@@ -60,6 +67,7 @@ unfoldable pub item_of : Shape → ℕ → List ℕ → Option Item
 item_of shape kind body =
     if kind == 1 then append_of shape body
     else if kind == 2 then read_of shape body
+    else if kind == 3 then subscribe_of shape body
     else if kind == 4 then trim_of body
     else if kind == 5 then add_of shape body
     else if kind == 6 then finalise_of shape body

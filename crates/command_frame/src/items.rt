@@ -22,6 +22,14 @@ pub enum Item {
         replica: Replica,
         position: Position,
     },
+    /// Asks a replica of a shard for the entries at so many positions, 1 to 4,096, from one on.
+    Subscribe {
+        lane: u8,
+        shard: Shard,
+        replica: Replica,
+        from: Position,
+        count: u16,
+    },
     /// Gives up the positions below this one, or below the end of the log where that comes first.
     Trim {
         lane: u8,
@@ -63,6 +71,7 @@ pub fn spelled_length(item: &Item) -> u32
     match item {
         Item::Append { bytes, .. } => bytes.get().len() as u32 + 9,
         Item::Read { .. } => 17,
+        Item::Subscribe { .. } => 19,
         Item::Trim { .. } => 14,
         Item::Add { .. } | Item::Finalise { .. } => 8,
         Item::Ask { .. } => 6,

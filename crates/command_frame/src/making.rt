@@ -5,7 +5,7 @@ ghost use Rattle.std.specs.List.{range_with_len};
 ghost use Rattle.log_base.specs.Shape.{shape};
 ghost use Rattle.log_base.specs.Wide.{be2};
 ghost use Rattle.command_frame.specs.Items.{item_spelling};
-ghost use Rattle.command_frame.specs.Making.{addition, additions, drawn_lane, drawn_replica, drawn_shard, letter, made_item, made_items, next_number, subscription};
+ghost use Rattle.command_frame.specs.Making.{addition, additions, drawn_lane, drawn_replica, drawn_shard, letter, made_item, made_items, next_number};
 
 use crate::items::Item;
 use log_base::{Config, Memory, Position, Replica, Shard, put_u8, put_u16, put_u32, put_u64};
@@ -147,7 +147,7 @@ fn put_read(target: Target, position: Position, out: &mut Vec<u8>)
 /// Appends a subscription.
 fn put_subscription(target: Target, from: Position, count: u16, out: &mut Vec<u8>)
     requires { vec_len out.old + 19 ≤ vec_capacity out.old }
-    ensures items { out.new.items ≡ out.old.items ++ subscription target.lane target.shard.0 target.replica.0 from.0 count }
+    ensures items { out.new.items ≡ out.old.items ++ item_spelling (Item.Subscribe target.lane target.shard target.replica from count) }
     ensures len { vec_len out.new ≡ vec_len out.old + 19 }
     ensures capacity { vec_capacity out.old ≤ vec_capacity out.new }
 {

@@ -2,7 +2,7 @@
 
 ghost use Rattle.std.specs.Prelude.{◌≡◌, ◌<◌, ◌≤◌, length, drop, slice_index, nat_lt, IfOk};
 ghost use Rattle.log_base.specs.Shape.{shape};
-ghost use Rattle.command_frame.specs.Reading.{names_shard, names_replica, append_of, read_of, trim_of, add_of, finalise_of, ask_of, item_of};
+ghost use Rattle.command_frame.specs.Reading.{names_shard, names_replica, append_of, read_of, subscribe_of, trim_of, add_of, finalise_of, ask_of, item_of};
 
 use crate::items::Item;
 use log_base::{Bytes, Config, Position, Replica, Shard, number_u16, number_u64};
@@ -29,6 +29,7 @@ fn read_kind(
     match kind {
         1 => read_append(alloc, config, body),
         2 => Ok(read_read(config, body)),
+        3 => Ok(read_subscribe(config, body)),
         4 => Ok(read_trim(body)),
         5 => Ok(read_add(config, body)),
         6 => Ok(read_finalise(config, body)),
@@ -78,6 +79,26 @@ fn read_read(config: &Config, body: &[u8]) -> Option<Item>
         shard: Shard(number_u16(body, 1)),
         replica: Replica(body[3]),
         position: Position(number_u64(body, 4)),
+    })
+}
+
+#[tactic(auto, unfolding(crate::specs::Reading::subscribe_of))]
+fn read_subscribe(config: &Config, body: &[u8]) -> Option<Item>
+    ensures { result ≡ subscribe_of (shape config.now) body.now }
+{
+    if body.len() != 14 || !is_of_replica(config, body) {
+        return None;
+    }
+    let count = number_u16(body, 12);
+    if count < 1 || count > 4_096 {
+        return None;
+    }
+    Some(Item::Subscribe {
+        lane: body[0],
+        shard: Shard(number_u16(body, 1)),
+        replica: Replica(body[3]),
+        from: Position(number_u64(body, 4)),
+        count,
     })
 }
 

@@ -6,11 +6,11 @@ use std::alloc::Global;
 use std::test::Fail;
 
 /// Add of shard 0; Append of "a" to segment 0 of shard 0; Read of position 0 at replica 0 of shard 0; on lane 63,
-/// Trim to position 258; Finalise of shard 0; Ask.
-const SIX: [u8; 63] = [
+/// Trim to position 258; Finalise of shard 0; Ask; Subscribe to 4,096 entries from position 258 on, at replica 0 of shard 0.
+const SEVEN: [u8; 82] = [
     0, 0, 0, 4, 5, 0, 0, 0, 0, 0, 0, 6, 1, 0, 0, 0, 0, 97, 0, 0, 0, 13, 2, 0, 0, 0, 0, 0, 0, 0, 0,
     0, 0, 0, 0, 0, 0, 0, 10, 4, 63, 0, 0, 0, 0, 0, 0, 1, 2, 0, 0, 0, 4, 6, 63, 0, 0, 0, 0, 0, 2, 7,
-    63,
+    63, 0, 0, 0, 15, 3, 63, 0, 0, 0, 0, 0, 0, 0, 0, 0, 1, 2, 16, 0,
 ];
 
 /// How many items are read, up to 70,000, and the place and the fault that end them, if it is not the end.
@@ -42,7 +42,7 @@ fn read_all(
 #[test]
 fn items_of_the_vectors(rt: HostRuntime) -> Result<(), Fail> {
     let config = Config::new(1, 1, 1, 1).ok().ok_or("config")?;
-    let bytes = Vec::from_slice(rt.alloc(), &SIX)?;
+    let bytes = Vec::from_slice(rt.alloc(), &SEVEN)?;
     let mut source = MemorySource::new(bytes, 5, Vec::new(rt.alloc()));
     let mut reader = ItemReader::new(rt.alloc(), config);
     let table = [
@@ -58,8 +58,12 @@ fn items_of_the_vectors(rt: HostRuntime) -> Result<(), Fail> {
         (49, "Item(Trim { lane: 63, position: Position(258) })"),
         (57, "Item(Finalise { lane: 63, shard: Shard(0) })"),
         (63, "Item(Ask { lane: 63 })"),
-        (63, "End"),
-        (63, "End"),
+        (
+            82,
+            "Item(Subscribe { lane: 63, shard: Shard(0), replica: Replica(0), from: Position(258), count: 4096 })",
+        ),
+        (82, "End"),
+        (82, "End"),
     ];
     for (offset, want) in table {
         let next = reader.next(&mut source).ok().ok_or("fault")?;
@@ -73,8 +77,8 @@ fn items_of_the_vectors(rt: HostRuntime) -> Result<(), Fail> {
 
 #[test]
 fn items_cut_short(rt: HostRuntime) -> Result<(), Fail> {
-    for size in 0..64 {
-        let bytes = Vec::from_slice(rt.alloc(), &SIX[..size])?;
+    for size in 0..83 {
+        let bytes = Vec::from_slice(rt.alloc(), &SEVEN[..size])?;
         let (count, at) = match size {
             0..8 => (0, 0),
             8..18 => (1, 8),
@@ -82,7 +86,8 @@ fn items_cut_short(rt: HostRuntime) -> Result<(), Fail> {
             35..49 => (3, 35),
             49..57 => (4, 49),
             57..63 => (5, 57),
-            _ => (6, 63),
+            63..82 => (6, 63),
+            _ => (7, 82),
         };
         let fault = if at == size as u64 {
             None
@@ -97,14 +102,22 @@ fn items_cut_short(rt: HostRuntime) -> Result<(), Fail> {
 
 #[test]
 fn no_items(rt: HostRuntime) -> Result<(), Fail> {
-    let table: [(&str, &[u8]); 22] = [
+    let table: [(&str, &[u8]); 24] = [
         ("length 0", &[0, 0, 0, 0, 5, 0, 0, 0]),
         ("length 65,542", &[0, 1, 0, 6, 5, 0, 0, 0]),
         ("length 2^32 - 1", &[255, 255, 255, 255, 5, 0, 0, 0]),
         ("kind 0", &[0, 0, 0, 4, 0, 0, 0, 0]),
         (
-            "Subscribe",
-            &[0, 0, 0, 15, 3, 0, 0, 0, 0, 0, 0, 0, 0, 0, 0, 0, 0, 0, 1],
+            "Subscribe to none",
+            &[0, 0, 0, 15, 3, 0, 0, 0, 0, 0, 0, 0, 0, 0, 0, 0, 0, 0, 0],
+        ),
+        (
+            "Subscribe to 4,097",
+            &[0, 0, 0, 15, 3, 0, 0, 0, 0, 0, 0, 0, 0, 0, 0, 0, 0, 16, 1],
+        ),
+        (
+            "Subscribe with a byte too few",
+            &[0, 0, 0, 14, 3, 0, 0, 0, 0, 0, 0, 0, 0, 0, 0, 0, 0, 1],
         ),
         ("Ask on lane 64", &[0, 0, 0, 2, 7, 64]),
         ("Ask with a byte too many", &[0, 0, 0, 3, 7, 0, 0]),
