@@ -10,6 +10,7 @@ An item is one of
     add SHARD
     append SHARD.REPLICA RECORD
     read SHARD.REPLICA @POSITION
+    subscribe SHARD.REPLICA @POSITION COUNT
     trim POSITION
     finalise SHARD
     ask
@@ -133,6 +134,17 @@ def read(lane, rest):
     return frame(2, lane + place(where) + number(position[1:], 8, "a position"))
 
 
+def subscribe(lane, rest):
+    where, _, wanted = (rest or "").partition(" ")
+    position, _, count = wanted.strip().partition(" ")
+    if not position.startswith("@"):
+        raise Refused("@POSITION")
+    wanted = number(count.strip(), 2, "a count")
+    if not 1 <= int.from_bytes(wanted, "big") <= 4096:
+        raise Refused("a count: 1 to 4096")
+    return frame(3, lane + place(where) + number(position[1:], 8, "a position") + wanted)
+
+
 def trim(lane, rest):
     return frame(4, lane + number(rest, 8, "a position"))
 
@@ -147,13 +159,24 @@ def ask(lane, rest):
     return frame(7, lane)
 
 
-VERBS = {"add": add, "append": append, "read": read, "trim": trim, "finalise": finalise, "ask": ask}
+VERBS = {
+    "add": add,
+    "append": append,
+    "read": read,
+    "subscribe": subscribe,
+    "trim": trim,
+    "finalise": finalise,
+    "ask": ask,
+}
 
 
 def item_frame(line):
     found = ITEM.fullmatch(line.strip())
     if not found or found["verb"] not in VERBS:
-        raise Refused("add SHARD, append SHARD.REPLICA RECORD, read SHARD.REPLICA @POSITION, trim POSITION, finalise SHARD or ask")
+        raise Refused(
+            "add SHARD, append SHARD.REPLICA RECORD, read SHARD.REPLICA @POSITION, subscribe SHARD.REPLICA @POSITION COUNT, "
+            "trim POSITION, finalise SHARD or ask"
+        )
     lane = number(found["lane"] or "0", 1, "a lane")
     if lane[0] > 63:
         raise Refused("a lane: 0 to 63")
@@ -173,6 +196,8 @@ def item_text(frame_bytes):
         return f"{prefix}finalise {shard}"
     if kind == 7:
         return f"{prefix}ask"
+    if kind == 3:
+        return f"{prefix}subscribe {shard}.{body[2]} @{int.from_bytes(body[3:11], 'big')} {int.from_bytes(body[11:], 'big')}"
     if kind == 1:
         return f"{prefix}append {shard}.{body[2]} {record_text(body[3:])}"
     return f"{prefix}read {shard}.{body[2]} @{int.from_bytes(body[3:], 'big')}"

@@ -23,6 +23,8 @@ ITEMS = [
     ("lane 63: trim 18446744073709551615", "0000000a 04 3f ffffffffffffffff"),
     ("finalise 0", "00000004 06 00 0000"),
     ("lane 1: finalise 258", "00000004 06 01 0102"),
+    ("subscribe 0.1 @2 10", "0000000f 03 00 0000 01 0000000000000002 000a"),
+    ("lane 3: subscribe 1.0 @0 4096", "0000000f 03 03 0001 00 0000000000000000 1000"),
     ("ask", "00000002 07 00"),
     ("lane 9: ask", "00000002 07 09"),
 ]
@@ -125,6 +127,9 @@ BAD_LINES = [
     ("finalise", "a shard"),
     ("finalise 0.0", "a shard"),
     ("ask 0", "nothing behind"),
+    ("subscribe 0.0 @0 0", "a count"),
+    ("subscribe 0.0 @0 4097", "a count"),
+    ("subscribe 0.0 0 1", "@POSITION"),
 ]
 
 # Bytes that are no reply's frames, what is shown before them, and a word of the fault.

@@ -3,3 +3,4 @@ pub mod Laws
 pub mod Making
 pub mod Reader
 pub mod Reading
+pub mod Streams

@@ -13,6 +13,7 @@ pub mod Next
 pub mod Going
 pub mod Mosts
 pub mod Ending
+pub mod StreamSpelling
 pub mod Spelling
 pub mod Starts
 pub mod Empty

@@ -10,6 +10,7 @@ ghost use Rattle.node_model.specs.Legal.{IsLawful};
 ghost use Rattle.node_model.specs.Sound.{IsSound, payloads_on};
 ghost use Rattle.reply_frame.specs.Replies.{HasSpelling};
 ghost use Rattle.serial_schedule.specs.Driven.{IsDriven, replies_of};
+ghost use Rattle.command_frame.specs.Streams.{unplaced};
 ghost use Rattle.quiet_run.specs.Causes.{AllCountOn, BeginWithStarts, HaveCauses, StartsAreClean, node_media};
 ghost use Rattle.quiet_run.specs.Running.{CausesGoOn, IsOver, IsUnderWay, StopsWith, job_of};
 ghost use Rattle.quiet_run.specs.Runs.{IsKnownAtMost, IsStoppedRun, IsStoppedWith, IsWithinLimits, KnowsMost};
@@ -47,7 +48,7 @@ pub fn drive<J: Journal + Drop, P: Places>(
     ensures given { IfOk result (λ driven. (driven.history.config ≡ config) × (driven.history.run ≡ run) × (driven.history.kept ≡ kept.items)) }
     ensures lawful { IfOk result (λ driven. IsLawful driven.history) }
     ensures driven { IfOk result (λ driven. IsDriven (shape config) run items.now driven.history.events) }
-    ensures replies { IfOk result (λ driven. driven.replies ≡ replies_of (shape config) run items.now driven.history.events) }
+    ensures replies { IfOk result (λ driven. map unplaced driven.replies ≡ replies_of (shape config) run items.now driven.history.events) }
     ensures each { IfOk result (λ driven. length driven.replies ≡ length items.now) }
     ensures nodes { IfOk result (λ driven.
         StandAfter (job (shape config) run items.now kept.items) driven.history.events (map (cluster_node J.state) nodes.new.items)) }
@@ -86,7 +87,7 @@ fn serve<J: Journal + Drop, P: Places>(
     ensures given { IfOk result (λ driven. (driven.history.config ≡ config) × (driven.history.run ≡ run) × (driven.history.kept ≡ kept.items)) }
     ensures lawful { IfOk result (λ driven. IsLawful driven.history) }
     ensures driven { IfOk result (λ driven. IsDriven (shape config) run items.now driven.history.events) }
-    ensures replies { IfOk result (λ driven. driven.replies ≡ replies_of (shape config) run items.now driven.history.events) }
+    ensures replies { IfOk result (λ driven. map unplaced driven.replies ≡ replies_of (shape config) run items.now driven.history.events) }
     ensures each { IfOk result (λ driven. length driven.replies ≡ length items.now) }
     ensures nodes { IfOk result (λ driven.
         StandAfter (job (shape config) run items.now kept.items) driven.history.events (map (cluster_node J.state) nodes.new)) }

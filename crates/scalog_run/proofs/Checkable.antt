@@ -7,10 +7,12 @@ use Rattle.std.proofs.lemmas.Bool.Decides.{nat_tests}
 use Rattle.std.proofs.lemmas.Grind.{common_steps}
 use Rattle.std.proofs.lemmas.List.{take_all}
 use Rattle.command_frame.specs.declared.items.Item.{Item}
-use Rattle.command_frame.specs.declared.items.Item.TheVariants.{Append, Read, Trim, Add, Finalise, Ask}
+use Rattle.command_frame.specs.declared.items.Item.TheVariants.{Append, Read, Subscribe, Trim, Add, Finalise, Ask}
 use Rattle.command_frame.specs.Items.{IsItem}
 use Rattle.reply_frame.specs.declared.replies.Reply.{Reply}
-use Rattle.reply_frame.specs.Replies.{HasSpelling, reply_bytes, reply_spelling}
+use Rattle.reply_frame.specs.Replies.{HasSpelling, IsNodeAnswer, reply_bytes, reply_spelling}
+use Rattle.record_frame.specs.declared.entries.Entry.{Entry}
+use Rattle.record_frame.specs.Entries.{IsEntry}
 use Rattle.history_frame.specs.declared.events.Event.{Event}
 use Rattle.history_frame.specs.declared.events.History.{History}
 use Rattle.history_frame.specs.declared.events.Kept.{Kept}
@@ -30,12 +32,14 @@ use Rattle.paxos_model.specs.Payloads.{payload_in, payload_spelling}
 use Rattle.paxos_model.specs.Votes.{Payload, Promise, Voted}
 use Rattle.serial_schedule.specs.Driven.{Follow, IsFollowed, after_event, after_events, replies_of}
 use Rattle.serial_schedule.specs.Scheduling.{Scheduled, at_first, next_turn}
-use Rattle.serial_schedule.proofs.Replying.{replies-good}
+use Rattle.serial_schedule.specs.Streams.{stream_of}
+use Rattle.serial_schedule.proofs.Replying.{IsNotFound, IsStream, WasFound}
+use Rattle.subscriber.specs.Following.{Following}
 use Rattle.quiet_run.specs.Limits.{bytes_of, byte_limit, is_one_full, limit_of, limit_passed}
 use Rattle.quiet_run.specs.Runs.{IsWithinLimits}
 use Rattle.quiet_run.specs.Standing.{Job, job}
 use Rattle.quiet_run.proofs.Passing.{room_left}
-use Rattle.quiet_run.proofs.Spelling.{all_replies_spelled}
+use Rattle.quiet_run.proofs.Spelling.{all_replies_spelled, replies_of_legal}
 use Rattle.cluster_disks.specs.Found.{kept_limit}
 use Rattle.cluster_disks.specs.Lent.{Disks, Lying}
 use Rattle.history_check.specs.Verdicts.{AreHistory}
@@ -56,6 +60,7 @@ use Rattle.scalog_run.proofs.SoFar.{few_items}
 lane_fits : (config : Shape) (item : Item) → IsItem config item → lane_of item < 256
 lane_fits config (Append lane shard replica bytes) is = let lane_is = is.0 in omega arith
 lane_fits config (Read lane shard replica position) is = let lane_is = is.0 in omega arith
+lane_fits config (Subscribe lane shard replica from count) is = let lane_is = is.0 in omega arith
 lane_fits config (Trim lane position) is = let lane_is = is.0 in omega arith
 lane_fits config (Add lane shard) is = let lane_is = is.0 in omega arith
 lane_fits config (Finalise lane shard) is = let lane_is = is.0 in omega arith
@@ -86,6 +91,13 @@ replies_spelled config (item ∷ items) (reply ∷ replies) same is spelled fits
 answers_fit : (events : List Event) → AllByRecursion EventFits events → AllByRecursion (λ (e : Event). ReplyFits e.happened.reply) events
 answers_fit [] fits = tt
 answers_fit (e ∷ events) fits = (fits.0.happened.reply, answers_fit events fits.1)
+
+entries_fit : (entries : List Entry) → AllByRecursion (WasFound ReplyFits) entries → AllByRecursion IsEntry entries
+entries_fit [] h = tt
+entries_fit (entry ∷ entries) h = (h.0.good.1, entries_fit entries h.1)
+
+stream_fits : (stream : Following) (last : Reply) → IsStream ReplyFits stream → ReplyFits last → IsNodeAnswer last → IsNotFound last → ReplyFits (stream_of stream last)
+stream_fits stream last h fits answer other = (h.from, entries_fit stream.delivered h.each, fits)
 
 -- ---- limits
 
@@ -186,8 +198,8 @@ module _ {D : Type 0} (by : Disks D) (config : Shape) (run : ℕ) (items : List 
   output_read is few widths =
       let replies = replies_of config run items history.events in
       let front : AreReplies (length items) (reply_frames items replies) =
-      replies_spelled config items replies whole.each is (all_replies_spelled config run items history.events whole.spelled.events)
-      (replies-good ReplyFits tt tt config run items history.events (answers_fit history.events widths.events)) in
+      replies_spelled config items replies whole.each is (all_replies_spelled config run (payloads_on history.kept) items history.events legal_here is whole.spelled.events)
+      (replies_of_legal ReplyFits tt tt tt stream_fits config run (payloads_on history.kept) items history.events legal_here is (answers_fit history.events widths.events)) in
       let same : reply_frames items replies ≡ reply_frames items (replies_of (shape history.config) history.run items history.events) =
       ap (λ (s : Shape). reply_frames items (replies_of s run items history.events)) (sym whole.config_is)
       ∙ ap (λ (r : ℕ). reply_frames items (replies_of (shape history.config) r items history.events)) (sym whole.run_is) in

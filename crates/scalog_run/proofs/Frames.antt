@@ -1,8 +1,9 @@
 -- The frames of replies, one after another.
-use Rattle.std.proofs.Common.{◌≡◌, ℕ, zero, suc, ◌<◌, List, [], ◌∷◌, ◌++◌, length, take, sym, ap, ◌∙◌, append_assoc, append-nil, arith}
+use Rattle.std.proofs.Common.{◌≡◌, ℕ, zero, suc, ◌<◌, List, [], ◌∷◌, ◌++◌, length, map, take, refl, sym, ap, ◌∙◌, append_assoc, append-nil, arith}
 use Rattle.std.specs.Prelude.{slice_index_or}
 use Rattle.command_frame.specs.declared.items.Item.{Item}
-use Rattle.reply_frame.specs.declared.replies.Reply.{Reply}
+use Rattle.command_frame.specs.Streams.{unplaced}
+use Rattle.reply_frame.specs.declared.replies.Reply.{Reply, Stream'}
 use Rattle.reply_frame.specs.Replies.{reply_spelling}
 use Rattle.scalog_run.specs.Output.{lane_of, reply_frames}
 
@@ -18,3 +19,15 @@ frames_more (first ∷ items) (one ∷ replies) zero item reply a b here there =
 frames_more (first ∷ items) (one ∷ replies) (suc n) item reply a b here there =
     ap (λ (l : List ℕ). reply_spelling (lane_of first) one ++ l) (frames_more items replies n item reply (omega arith) (omega arith) here there)
     ∙ sym (append_assoc (reply_spelling (lane_of first) one) (reply_frames (take n items) (take n replies)) (reply_spelling (lane_of item) reply))
+
+-- where the last answers of streams stand in memory changes no frame
+spelled_placed : (lane : ℕ) (reply : Reply) → reply_spelling lane (unplaced reply) ≡ reply_spelling lane reply
+spelled_placed lane (Stream' from entries at last) = refl
+spelled_placed lane reply = refl
+
+pub frames_placed : (items : List Item) (replies : List Reply) → reply_frames items (map unplaced replies) ≡ reply_frames items replies
+frames_placed [] replies = refl
+frames_placed (item ∷ items) [] = refl
+frames_placed (item ∷ items) (reply ∷ replies) =
+    ap (λ (l : List ℕ). l ++ reply_frames items (map unplaced replies)) (spelled_placed (lane_of item) reply)
+    ∙ ap (λ (l : List ℕ). reply_spelling (lane_of item) reply ++ l) (frames_placed items replies)

@@ -2,7 +2,7 @@
 use Rattle.std.specs.Prelude.{◌≡◌, ◌⊎◌, ℕ, List, [], ◌∷◌, ◌++◌, take, Option, Some, None, Result, Ok, Err}
 use Rattle.std.specs.Io.KnownBytes.{Appends}
 use Rattle.command_frame.specs.declared.items.Item.{Item}
-use Rattle.command_frame.specs.declared.items.Item.TheVariants.{Append, Read, Trim, Add, Finalise, Ask}
+use Rattle.command_frame.specs.declared.items.Item.TheVariants.{Append, Read, Subscribe, Trim, Add, Finalise, Ask}
 use Rattle.reply_frame.specs.declared.replies.Reply.{Reply}
 use Rattle.reply_frame.specs.Frames.{frame}
 use Rattle.reply_frame.specs.Replies.{reply_spelling}
@@ -18,6 +18,7 @@ use Rattle.scalog_run.specs.declared.fault.RunFault.TheVariants.{BadInput, Unrea
 abbrev pub lane_of : Item → ℕ
 lane_of (Append lane shard replica bytes) = lane
 lane_of (Read lane shard replica position) = lane
+lane_of (Subscribe lane shard replica from count) = lane
 lane_of (Trim lane position) = lane
 lane_of (Add lane shard) = lane
 lane_of (Finalise lane shard) = lane

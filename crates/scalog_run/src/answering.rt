@@ -1,8 +1,9 @@
 //! Answering items over the disks of a cluster, which a rack lends and takes back.
 
-ghost use Rattle.std.specs.Prelude.{◌≡◌, ◌≤◌, length, IfOk, IfErr};
+ghost use Rattle.std.specs.Prelude.{◌≡◌, ◌≤◌, length, map, IfOk, IfErr};
 ghost use Rattle.std.specs.List.{AllByRecursion};
 ghost use Rattle.command_frame.specs.Items.{IsItem};
+ghost use Rattle.command_frame.specs.Streams.{unplaced};
 ghost use Rattle.reply_frame.specs.Replies.{HasSpelling};
 ghost use Rattle.log_base.specs.Shape.{shape};
 ghost use Rattle.serial_schedule.specs.Driven.{replies_of};
@@ -62,7 +63,7 @@ where
     requires items { AllByRecursion (IsItem (shape options.now.config)) items.now }
     ensures whole { IfOk result (λ driven. IsWholeRun (disks Q.D.reads Q.D.may_leave Q.D.keeps_synced Q.D.faults) (shape options.now.config) options.now.run items.now driven.history
         (lain Q.disk_at Q.disk_faults Q.faults rack.old) (lain Q.disk_at Q.disk_faults Q.faults rack.new)) }
-    ensures replies { IfOk result (λ driven. driven.replies ≡ replies_of (shape options.now.config) options.now.run items.now driven.history.events) }
+    ensures replies { IfOk result (λ driven. map unplaced driven.replies ≡ replies_of (shape options.now.config) options.now.run items.now driven.history.events) }
     ensures spelled { IfOk result (λ driven. AllByRecursion HasSpelling driven.replies) }
     ensures known { IfOk result (λ driven. IsKnownAtMost (job (shape options.now.config) options.now.run items.now driven.history.kept) driven.history.events
         driven.known driven.end.0 driven.trim.0) }

@@ -24,4 +24,6 @@ pub use run::{one_reading, run_items, scalog};
 #[cfg(test)]
 mod checking_tests;
 #[cfg(test)]
+mod stream_tests;
+#[cfg(test)]
 mod tests;

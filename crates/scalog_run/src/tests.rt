@@ -50,6 +50,23 @@ const TRIMMED: &[u8] =
 const TRIMMED_ANSWERED: &[u8] =
     b"\0\0\0\x07\x40\0\x14\0\0\0\0\0\0\0\x0b\x40\0\x02\0\0\0\0\0\0\0\0\0\0\0\x07\x40\0\x14\0\0\0\x02\0\0\0\x0b\x40\0\x0f\0\0\0\0\0\0\0\x01\0\0\0\x03\x40\0\x12";
 
+// Add 0, Append "a", "b" and "c", Trim 2, Read @1, Subscribe from 2 to 10, Trim 99, Read @2, Ask.
+const SUBSCRIBED: &[u8] =
+    b"\0\0\0\x04\x05\0\0\0\0\0\0\x06\x01\0\0\0\0a\0\0\0\x06\x01\0\0\0\0b\0\0\0\x06\x01\0\0\0\0c\0\0\0\x0a\x04\0\0\0\0\0\0\0\0\x02\0\0\0\x0d\x02\0\0\0\0\0\0\0\0\0\0\0\x01\0\0\0\x0f\x03\0\0\0\0\0\0\0\0\0\0\0\x02\0\x0a\0\0\0\x0a\x04\0\0\0\0\0\0\0\0\x63\0\0\0\x0d\x02\0\0\0\0\0\0\0\0\0\0\0\x02\0\0\0\x02\x07\0";
+
+// Settled at slot 0, at positions 0, 1 and 2, settled at slot 4, trimmed up to 2, the record "c" and an end at 3, settled at slot 5,
+// trimmed up to 3, and the number of the last append that is stored.
+const SUBSCRIBED_ANSWERED: &[u8] =
+    b"\0\0\0\x07\x40\0\x14\0\0\0\0\0\0\0\x0b\x40\0\x02\0\0\0\0\0\0\0\0\0\0\0\x0b\x40\0\x02\0\0\0\0\0\0\0\x01\0\0\0\x0b\x40\0\x02\0\0\0\0\0\0\0\x02\0\0\0\x07\x40\0\x14\0\0\0\x04\0\0\0\x0b\x40\0\x0f\0\0\0\0\0\0\0\x02\0\0\0\x25\x40\0\x15\0\0\0\0\0\0\0\x02\0\x01\0\0\0\0\0\x01\0\0\0\x02\0\0\0\x01c\x05\0\0\0\0\0\0\0\x03\0\0\0\x07\x40\0\x14\0\0\0\x05\0\0\0\x0b\x40\0\x0f\0\0\0\0\0\0\0\x03\0\0\0\x0b\x40\0\x0a\0\0\0\x01\0\0\0\x02";
+
+// Add 0, Add 1, Append "x" to 0.0 and "y" to 1.1, and Subscribe from 0 to 2 at 0.0.
+const SUBSCRIBED_ELSEWHERE: &[u8] =
+    b"\0\0\0\x04\x05\0\0\0\0\0\0\x04\x05\0\0\x01\0\0\0\x06\x01\0\0\0\0x\0\0\0\x06\x01\0\0\x01\x01y\0\0\0\x0f\x03\0\0\0\0\0\0\0\0\0\0\0\0\0\x02";
+
+// Settled at slots 0 and 1, at positions 0 and 1, and both records.
+const SUBSCRIBED_ELSEWHERE_ANSWERED: &[u8] =
+    b"\0\0\0\x07\x40\0\x14\0\0\0\0\0\0\0\x07\x40\0\x14\0\0\0\x01\0\0\0\x0b\x40\0\x02\0\0\0\0\0\0\0\0\0\0\0\x0b\x40\0\x02\0\0\0\0\0\0\0\x01\0\0\0\x2c\x40\0\x15\0\0\0\0\0\0\0\0\0\x02\0\0\0\0\0\x01\0\0\0\0\0\0\0\x01x\0\0\0\0\0\x01\0\0\0\x01\0\0\0\x01y\0";
+
 // Settled at slot 0, at position 0, and the record found there.
 const SETTLED_AT_FOUND: &[u8] =
     b"\0\0\0\x07\x40\0\x14\0\0\0\0\0\0\0\x0b\x40\0\x02\0\0\0\0\0\0\0\0\0\0\0\x1a\x40\0\x03\0\0\0\0\0\0\0\0\0\0\0\0\0\x01\0\0\0\0\0\0\0\x01a";
@@ -118,7 +135,7 @@ fn run_on(
     let bytes = Vec::from_slice(alloc, input)?;
     let mut source = MemorySource::new(bytes, 5, vec![in alloc; failing_read]?);
     let fails = vec![in alloc; failing_write]?;
-    let mut sink = MemorySink::new(alloc, 1_048_576, 4, fails)
+    let mut sink = MemorySink::new(alloc, 16_777_216, 4, fails)
         .ok()
         .ok_or("memory")?;
     let status = scalog(alloc, &texts, &mut source, &mut sink, rack);
@@ -132,7 +149,7 @@ pub(crate) fn run_anew(rt: &HostRuntime, words: &[&str], input: &[u8]) -> Result
 }
 
 // How many frames of a kind stand in the bytes.
-fn count_frames(bytes: &[u8], kind: u8) -> usize {
+pub(crate) fn count_frames(bytes: &[u8], kind: u8) -> usize {
     let mut at = 0;
     let mut count: usize = 0;
     for _ in 0..bytes.len() {
@@ -166,6 +183,13 @@ fn inputs_are_answered(rt: HostRuntime) -> Result<(), Fail> {
         ("a finalised shard", FINALISED, FINALISED_ANSWERED, None),
         ("a trimmed log", TRIMMED, TRIMMED_ANSWERED, None),
         ("no shard", ASKED, ASKED_ANSWERED, None),
+        ("a subscription", SUBSCRIBED, SUBSCRIBED_ANSWERED, None),
+        (
+            "a subscription to two shards",
+            SUBSCRIBED_ELSEWHERE,
+            SUBSCRIBED_ELSEWHERE_ANSWERED,
+            None,
+        ),
     ];
     for (name, input, replies, events) in table {
         let outcome = run_anew(&rt, &RUN, input)?;

@@ -48,6 +48,7 @@ fn lane_of(item: &Item) -> u8
     match item {
         Item::Append { lane, .. } => *lane,
         Item::Read { lane, .. } => *lane,
+        Item::Subscribe { lane, .. } => *lane,
         Item::Trim { lane, .. } => *lane,
         Item::Add { lane, .. } => *lane,
         Item::Finalise { lane, .. } => *lane,

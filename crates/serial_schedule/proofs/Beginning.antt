@@ -7,13 +7,13 @@ use Rattle.log_base.specs.declared.numbers.Client.{Client}
 use Rattle.log_base.specs.declared.numbers.NodeId.{NodeId}
 use Rattle.log_base.specs.declared.numbers.Number.{Number}
 use Rattle.command_frame.specs.declared.items.Item.{Item}
-use Rattle.command_frame.specs.declared.items.Item.TheVariants.{Append, Read, Trim, Add, Finalise, Ask as AskItem}
+use Rattle.command_frame.specs.declared.items.Item.TheVariants.{Append, Read, Subscribe, Trim, Add, Finalise, Ask as AskItem}
 use Rattle.command_frame.specs.Items.{IsItem}
 use Rattle.serial_schedule.specs.declared.courses.Course.{Course}
 use Rattle.serial_schedule.specs.declared.duties.Awaited.{Awaited}
 use Rattle.serial_schedule.specs.declared.duties.Duty.{Duty}
 use Rattle.serial_schedule.specs.Courses.{asked, beginning, client_of, last_number}
-use Rattle.serial_schedule.specs.Keeping.{IsCourse, IsDuty, IsKept}
+use Rattle.serial_schedule.specs.Keeping.{IsCourse, IsDuty, IsKept, IsMade}
 use Rattle.serial_schedule.specs.Noting.{duties_with}
 use Rattle.serial_schedule.specs.Scheduling.{drawn}
 use Rattle.serial_schedule.proofs.Kept.{taken-is}
@@ -32,10 +32,29 @@ beginning-is : (config : Shape) (run : ℕ) (draws : List ℕ) (primaries : List
     → IsCourse config (beginning config run draws primaries item)
 beginning-is config run draws primaries (Append lane shard replica bytes) range is = (tt, tt)
 beginning-is config run draws primaries (Read lane shard replica position) range is = (is.2, tt)
+beginning-is config run draws primaries (Subscribe lane shard replica from count) range is = ((is.1, is.2), tt)
 beginning-is config run draws primaries (Trim lane position) range is = (some-orderer config range, tt)
 beginning-is config run draws primaries (Add lane shard) range is = (some-orderer config range, tt)
 beginning-is config run draws primaries (Finalise lane shard) range is = (some-orderer config range, tt)
 beginning-is config run draws primaries (AskItem lane) range is = asked-is config (client_of lane) (last_number run draws lane) (get_or primaries lane None)
+
+-- what an item makes due at first is no entry
+asked-made : (client : Client) (number : Number) (primary : Option NodeId) → IsMade (asked client number primary)
+asked-made client number None = tt
+asked-made client number (Some primary) = tt
+
+beginning-made : (config : Shape) (run : ℕ) (draws : List ℕ) (primaries : List (Option NodeId)) (item : Item) → IsMade (beginning config run draws primaries item)
+beginning-made config run draws primaries (Append lane shard replica bytes) = tt
+beginning-made config run draws primaries (Read lane shard replica position) = tt
+beginning-made config run draws primaries (Subscribe lane shard replica from count) = tt
+beginning-made config run draws primaries (Trim lane position) = tt
+beginning-made config run draws primaries (Add lane shard) = tt
+beginning-made config run draws primaries (Finalise lane shard) = tt
+beginning-made config run draws primaries (AskItem lane) = asked-made (client_of lane) (last_number run draws lane) (get_or primaries lane None)
+
+pub begins-made : (config : Shape) (run : ℕ) (draws : List ℕ) (primaries : List (Option NodeId)) (item : Item) (course : Course)
+    → course ≡ beginning config run draws primaries item → IsMade course
+begins-made config run draws primaries item course e = subst IsMade (sym e) (beginning-made config run draws primaries item)
 
 length-drawn : (item : Item) (draws : List ℕ) → length (drawn item draws) ≡ length draws
 length-drawn (Append lane shard replica bytes) draws = length-set draws lane (get_or draws lane 0 + 1)

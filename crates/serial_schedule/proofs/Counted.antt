@@ -9,17 +9,21 @@ use Rattle.log_base.specs.declared.numbers.Replica.{Replica}
 use Rattle.log_base.specs.declared.numbers.Shard.{Shard}
 use Rattle.record_frame.specs.declared.values.Value.{Value}
 use Rattle.command_frame.specs.declared.items.Item.{Item}
-use Rattle.command_frame.specs.declared.items.Item.TheVariants.{Append, Read, Trim, Add, Finalise, Ask as AskItem}
-use Rattle.reply_frame.specs.declared.replies.Reply.{Reply, Stored, Down, Elsewhere, Taken, NotLeading, NoLeader}
+use Rattle.command_frame.specs.declared.items.Item.TheVariants.{Append, Read, Subscribe, Trim, Add, Finalise, Ask as AskItem}
+use Rattle.record_frame.specs.declared.entries.Entry.{Entry}
+use Rattle.subscriber.specs.Following.{Following, after_offer}
+use Rattle.reply_frame.specs.declared.replies.Reply.{Reply, Nothing, Stored, Found, Down, Elsewhere, Taken, NotLeading, NoLeader}
 use Rattle.history_frame.specs.declared.events.Event.{Event}
 use Rattle.history_frame.specs.declared.events.Sent.{Sent}
 use Rattle.serial_schedule.specs.declared.courses.Course.{Course}
-use Rattle.serial_schedule.specs.declared.courses.Course.TheVariants.{Replies, GoesOn}
+use Rattle.serial_schedule.specs.declared.courses.Course.TheVariants.{Replies, GoesOn, Takes, Completes, Ends}
 use Rattle.serial_schedule.specs.declared.duties.Awaited.{Awaited}
-use Rattle.serial_schedule.specs.declared.duties.Awaited.TheVariants.{Storing, Requesting, Reading, Last}
+use Rattle.serial_schedule.specs.declared.duties.Awaited.TheVariants.{Storing, Requesting, Reading, Streaming, StreamingOn, Last}
+use Rattle.serial_schedule.specs.declared.duties.Subscription.{Subscription}
 use Rattle.serial_schedule.specs.declared.duties.Duty.{Duty}
 use Rattle.serial_schedule.specs.declared.duties.Duty.TheVariants.{Give, DeliverAll, MakeCall}
-use Rattle.serial_schedule.specs.Courses.{asked, beginning, client_of, course_of, last_number, reading_at, request}
+use Rattle.serial_schedule.specs.Courses.{asked, beginning, client_of, course_of, following, following_on, last_number, reading_at, request, with_entry}
+use Rattle.serial_schedule.specs.Streams.{is_taken, moved_on, stream_of, wants_more}
 use Rattle.serial_schedule.specs.Driven.{after_event, after_events}
 use Rattle.serial_schedule.specs.Noting.{course_or_none, duties_with, replies_with}
 use Rattle.serial_schedule.specs.Scheduling.{Scheduled, Waiting, at_first, begun, delivery, entered, due, first_step, given, is_done, is_first_done, is_idle, next_turn, noted, passed, ready, ready_with, rest_in, taken, turn_in}
@@ -60,7 +64,7 @@ chosen-calls queue DeliverAll duties true h rest = omega arith
 chosen-calls queue (MakeCall node call awaited) duties true h rest = cc
 chosen-calls queue duty duties false h rest = refl
 
-due-calls : (queue : List Waiting) (duties : List Duty) → calls_in (due queue duties) ≡ calls_in duties
+pub due-calls : (queue : List Waiting) (duties : List Duty) → calls_in (due queue duties) ≡ calls_in duties
 due-calls queue [] = refl
 due-calls queue (duty ∷ duties) = chosen-calls queue duty duties (is_done queue duty) refl (due-calls queue duties)
 
@@ -73,6 +77,9 @@ passed-counted count s h = record { all = let same = due-calls s.queue s.duties 
 abbrev pub course_count : Course → ℕ
 course_count (Replies reply) = 1
 course_count (GoesOn duties) = calls_in duties
+course_count (Takes position entry next) = call_in next
+course_count (Completes position entry) = 1
+course_count (Ends last) = 1
 
 requested-count : (config : Shape) (orderer : ℕ) (client : Client) (value : Value) (more : Bool)
     → course_count (cond more (GoesOn (request config orderer client value ∷ [])) (Replies NoLeader)) ≡ 1
@@ -84,31 +91,55 @@ read-count : (config : Shape) (shard : Shard) (replica : Replica) (client : Clie
 read-count config shard replica client position true = refl
 read-count config shard replica client position false = refl
 
-course_of-count : (config : Shape) (awaited : Awaited) (reply : Reply) → course_count (course_of config awaited reply) ≡ 1
+with_entry-count : (config : Shape) (s : Subscription) (entry : Entry) (more : Bool)
+    → course_count (cond more (Takes s.position entry (following config (moved_on s entry))) (Completes s.position entry)) ≡ 1
+with_entry-count config s entry true = refl
+with_entry-count config s entry false = refl
+
+found-count : (config : Shape) (s : Subscription) (entry : Entry) (taken : Bool) → course_count (cond taken (with_entry config s entry) (Ends Nothing)) ≡ 1
+found-count config s entry true = with_entry-count config s entry (wants_more s)
+found-count config s entry false = refl
+
+told-count : (config : Shape) (shard : Shard) (s : Subscription) (more : Bool)
+    → course_count (cond more (GoesOn (following_on config shard.0 s ∷ [])) (Ends (Elsewhere shard))) ≡ 1
+told-count config shard s true = refl
+told-count config shard s false = refl
+
+pub course_of-count : (config : Shape) (awaited : Awaited) (reply : Reply) → course_count (course_of config awaited reply) ≡ 1
 course_of-count config (Storing primary client number) (Stored offset) = refl
 course_of-count config (Requesting orderer client value) NotLeading = requested-count config (orderer + 1) client value (nat_lt (orderer + 1) config.orderers)
 course_of-count config (Requesting orderer client value) Down = requested-count config (orderer + 1) client value (nat_lt (orderer + 1) config.orderers)
 course_of-count config (Requesting orderer client value) (Taken slot) = refl
 course_of-count config (Reading replica client position) (Elsewhere shard) = read-count config shard replica client position (nat_lt shard.0 config.shards)
+course_of-count config (Streaming s) (Found position entry) = found-count config s entry (is_taken s entry)
+course_of-count config (Streaming s) (Elsewhere shard) = told-count config shard s (nat_lt shard.0 config.shards)
+course_of-count config (StreamingOn s) (Found position entry) = found-count config s entry (is_taken s entry)
 course_of-count config (Storing primary client number) reply = refl
 course_of-count config (Requesting orderer client value) reply = refl
 course_of-count config (Reading replica client position) reply = refl
+course_of-count config (Streaming s) reply = refl
+course_of-count config (StreamingOn s) reply = refl
 course_of-count config Last reply = refl
 
-calls_in-append : (some more : List Duty) → calls_in (some ++ more) ≡ calls_in some + calls_in more
+pub calls_in-append : (some more : List Duty) → calls_in (some ++ more) ≡ calls_in some + calls_in more
 calls_in-append [] more = sym (zero-add (calls_in more))
 calls_in-append (duty ∷ some) more = let rest = calls_in-append some more in omega arith
 
-with-count : (course : Course) (duties : List Duty) (replies : List Reply)
-    → length (replies_with (Some course) replies) + calls_in (duties_with (Some course) duties) ≡ length replies + calls_in duties + course_count course
-with-count (Replies reply) duties replies = let more : length (replies ++ reply ∷ []) ≡ length replies + 1 = length-append replies (reply ∷ []) in omega arith
-with-count (GoesOn first) duties replies = let more = calls_in-append first duties in omega arith
+with-count : (course : Course) (stream : Following) (duties : List Duty) (replies : List Reply)
+    → length (replies_with (Some course) stream replies) + calls_in (duties_with (Some course) duties) ≡ length replies + calls_in duties + course_count course
+with-count (Replies reply) stream duties replies = let more : length (replies ++ reply ∷ []) ≡ length replies + 1 = length-append replies (reply ∷ []) in omega arith
+with-count (GoesOn first) stream duties replies = let more = calls_in-append first duties in omega arith
+with-count (Takes position entry next) stream duties replies = omega arith
+with-count (Completes position entry) stream duties replies =
+    let more : length (replies ++ stream_of (after_offer stream position.0 entry) Nothing ∷ []) ≡ length replies + 1 = length-append replies (stream_of (after_offer stream position.0 entry) Nothing ∷ []) in
+    omega arith
+with-count (Ends last) stream duties replies = let more : length (replies ++ stream_of stream last ∷ []) ≡ length replies + 1 = length-append replies (stream_of stream last ∷ []) in omega arith
 
-followed-count : (config : Shape) (awaited : Option Awaited) (reply : Reply) (duties : List Duty) (replies : List Reply)
-    → length (replies_with (course_or_none config awaited reply) replies) + calls_in (duties_with (course_or_none config awaited reply) duties)
+followed-count : (config : Shape) (awaited : Option Awaited) (reply : Reply) (stream : Following) (duties : List Duty) (replies : List Reply)
+    → length (replies_with (course_or_none config awaited reply) stream replies) + calls_in (duties_with (course_or_none config awaited reply) duties)
     ≡ length replies + calls_in duties + awaited_in awaited
-followed-count config None reply duties replies = omega arith
-followed-count config (Some awaited) reply duties replies = with-count (course_of config awaited reply) duties replies ∙ ap (λ (n : ℕ). length replies + calls_in duties + n) (course_of-count config awaited reply)
+followed-count config None reply stream duties replies = omega arith
+followed-count config (Some awaited) reply stream duties replies = with-count (course_of config awaited reply) stream duties replies ∙ ap (λ (n : ℕ). length replies + calls_in duties + n) (course_of-count config awaited reply)
 
 -- ---- up to the next turn
 
@@ -116,9 +147,10 @@ asked-count : (client : Client) (number : Number) (primary : Option NodeId) → 
 asked-count client number None = refl
 asked-count client number (Some primary) = refl
 
-beginning-count : (config : Shape) (run : ℕ) (draws : List ℕ) (primaries : List (Option NodeId)) (item : Item) → course_count (beginning config run draws primaries item) ≡ 1
+pub beginning-count : (config : Shape) (run : ℕ) (draws : List ℕ) (primaries : List (Option NodeId)) (item : Item) → course_count (beginning config run draws primaries item) ≡ 1
 beginning-count config run draws primaries (Append lane shard replica bytes) = refl
 beginning-count config run draws primaries (Read lane shard replica position) = refl
+beginning-count config run draws primaries (Subscribe lane shard replica from count) = refl
 beginning-count config run draws primaries (Trim lane position) = refl
 beginning-count config run draws primaries (Add lane shard) = refl
 beginning-count config run draws primaries (Finalise lane shard) = refl
@@ -127,6 +159,13 @@ beginning-count config run draws primaries (AskItem lane) = asked-count (client_
 taken-counted : (count : ℕ) (s : Scheduled) (course : Course) → counted s + course_count course ≡ count → s.awaited ≡ None → IsCounted count (taken s course)
 taken-counted count s (Replies reply) all none =
     record { all = let more : length (s.replies ++ reply ∷ []) ≡ length s.replies + 1 = length-append s.replies (reply ∷ []) in omega arith; none = none }
+taken-counted count s (Takes position entry next) all none = record { all = omega arith; none = none }
+taken-counted count s (Completes position entry) all none =
+    let last : Reply = stream_of (after_offer s.stream position.0 entry) Nothing in
+    record { all = let more : length (s.replies ++ last ∷ []) ≡ length s.replies + 1 = length-append s.replies (last ∷ []) in omega arith; none = none }
+taken-counted count s (Ends answer) all none =
+    let last : Reply = stream_of s.stream answer in
+    record { all = let more : length (s.replies ++ last ∷ []) ≡ length s.replies + 1 = length-append s.replies (last ∷ []) in omega arith; none = none }
 taken-counted count s (GoesOn duties) all none = record { all = let more = calls_in-append duties s.duties in omega arith; none = none }
 
 begun-counted : (count : ℕ) (s : Scheduled) (item : Item) (items : List Item) → s.items ≡ item ∷ items → IsCounted count s → IsCounted count (begun s item items)
@@ -155,7 +194,7 @@ first-counted s (MakeCall node call awaited ∷ duties) e none = let same = ap c
 noted-counted : (count : ℕ) (s : Scheduled) (outputs : List Sent) (reply : Reply) → counted s ≡ count → IsCounted count (noted s outputs reply)
 noted-counted count s outputs reply all =
     subst (IsCounted count) (sym (noted-parts s outputs reply))
-    (record { all = let same = followed-count s.config s.awaited reply s.duties s.replies in omega arith; none = refl })
+    (record { all = let same = followed-count s.config s.awaited reply s.stream s.duties s.replies in omega arith; none = refl })
 
 event-counted : (count : ℕ) (before : List Event) (s : Scheduled) (event : Event) → IsCounted count s → IsCounted count (after_event s event)
 event-counted count before s event h =

@@ -6,7 +6,7 @@ use Rattle.reply_frame.specs.declared.replies.Reply.{Reply}
 use Rattle.history_frame.specs.declared.events.Event.{Event}
 use Rattle.history_frame.specs.declared.events.Sent.{Sent}
 use Rattle.serial_schedule.specs.declared.courses.Course.{Course}
-use Rattle.serial_schedule.specs.declared.courses.Course.TheVariants.{Replies, GoesOn}
+use Rattle.serial_schedule.specs.declared.courses.Course.TheVariants.{Replies, GoesOn, Takes, Completes, Ends}
 use Rattle.serial_schedule.specs.declared.duties.Duty.{Duty}
 use Rattle.serial_schedule.specs.declared.duties.Duty.TheVariants.{Give, DeliverAll, MakeCall}
 use Rattle.serial_schedule.specs.Courses.{beginning}
@@ -22,6 +22,9 @@ pub record IsOf (config : Shape) (run : ℕ) (s : Scheduled) : Type 0 where
 taken-of : (config : Shape) (run : ℕ) (s : Scheduled) (course : Course) → IsOf config run s → IsOf config run (taken s course)
 taken-of config run s (Replies reply) h = record { config_is = h.config_is; run_is = h.run_is }
 taken-of config run s (GoesOn duties) h = record { config_is = h.config_is; run_is = h.run_is }
+taken-of config run s (Takes position entry next) h = record { config_is = h.config_is; run_is = h.run_is }
+taken-of config run s (Completes position entry) h = record { config_is = h.config_is; run_is = h.run_is }
+taken-of config run s (Ends last) h = record { config_is = h.config_is; run_is = h.run_is }
 
 begun-of : (config : Shape) (run : ℕ) (s : Scheduled) (item : Item) (items : List Item) → IsOf config run s → IsOf config run (begun s item items)
 begun-of config run s item items h =

@@ -1,5 +1,6 @@
 pub mod Kept
 pub mod Ready
+pub mod Placed
 pub mod Along
 pub mod Posted
 pub mod Beginning

@@ -19,13 +19,14 @@ use Rattle.node_table.specs.declared.role.Role.TheVariants.{Storage, Orderer}
 use Rattle.node_table.specs.Numbering.{nodes_of, role_at}
 use Rattle.node_model.specs.Fits.{IsInput, IsRequested, IsValueOf}
 use Rattle.serial_schedule.specs.declared.duties.Awaited.{Awaited}
-use Rattle.serial_schedule.specs.declared.duties.Awaited.TheVariants.{Storing, Requesting, Reading, Last}
+use Rattle.serial_schedule.specs.declared.duties.Awaited.TheVariants.{Storing, Requesting, Reading, Streaming, StreamingOn, Last}
 use Rattle.serial_schedule.specs.declared.duties.Duty.{Duty}
 use Rattle.serial_schedule.specs.declared.duties.Duty.TheVariants.{Give, DeliverAll, MakeCall}
 use Rattle.serial_schedule.specs.declared.duties.Signal.{Signal}
 use Rattle.serial_schedule.specs.declared.duties.Signal.TheVariants.{Restart, Lead, Tick}
 use Rattle.serial_schedule.specs.Calling.{IsAllowed}
 use Rattle.serial_schedule.specs.Duties.{signal_input}
+use Rattle.serial_schedule.specs.Keeping.{IsSubscription}
 use Rattle.serial_schedule.specs.Scheduling.{Scheduled}
 
 -- ---- what is permitted
@@ -56,6 +57,8 @@ abbrev pub IsAnswerOf : Shape → Awaited → Type 0
 IsAnswerOf config (Storing primary client number) = IsStorageNode config primary.0
 IsAnswerOf config (Requesting orderer client value) = (orderer < config.orderers) × IsWish config value
 IsAnswerOf config (Reading replica client position) = replica.0 < config.replicas
+IsAnswerOf config (Streaming s) = IsSubscription config s
+IsAnswerOf config (StreamingOn s) = IsSubscription config s
 IsAnswerOf config Last = Unit {0}
 
 abbrev pub IsAnswerOrNone : Shape → Option Awaited → Type 0

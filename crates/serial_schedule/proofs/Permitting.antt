@@ -17,27 +17,31 @@ use Rattle.record_frame.specs.declared.values.Value.{Value}
 use Rattle.record_frame.specs.declared.values.Value.TheVariants.{Add as AddValue, Finalise as FinaliseValue, Trim as TrimValue}
 use Rattle.record_frame.specs.Entries.{IsEntry, entry_of}
 use Rattle.command_frame.specs.declared.items.Item.{Item}
-use Rattle.command_frame.specs.declared.items.Item.TheVariants.{Append, Read, Trim, Add, Finalise, Ask as AskItem}
+use Rattle.command_frame.specs.declared.items.Item.TheVariants.{Append, Read, Subscribe, Trim, Add, Finalise, Ask as AskItem}
 use Rattle.command_frame.specs.Items.{IsItem}
-use Rattle.reply_frame.specs.declared.replies.Reply.{Reply, Stored, Down, Elsewhere, Taken, NotLeading, NoLeader}
+use Rattle.record_frame.specs.declared.entries.Entry.{Entry}
+use Rattle.reply_frame.specs.declared.replies.Reply.{Reply, Nothing, Stored, Found, Down, Elsewhere, Taken, NotLeading, NoLeader}
 use Rattle.history_frame.specs.declared.events.Event.{Event}
 use Rattle.history_frame.specs.declared.events.Sent.{Sent}
 use Rattle.node_table.specs.Numbering.{nodes_of, orderer_node, storage_node}
 use Rattle.node_table.proofs.Roles.{storage_node-lt}
 use Rattle.serial_schedule.specs.declared.courses.Course.{Course}
-use Rattle.serial_schedule.specs.declared.courses.Course.TheVariants.{Replies, GoesOn}
+use Rattle.serial_schedule.specs.declared.courses.Course.TheVariants.{Replies, GoesOn, Takes, Completes, Ends}
 use Rattle.serial_schedule.specs.declared.duties.Awaited.{Awaited}
-use Rattle.serial_schedule.specs.declared.duties.Awaited.TheVariants.{Storing, Requesting, Reading, Last}
+use Rattle.serial_schedule.specs.declared.duties.Awaited.TheVariants.{Storing, Requesting, Reading, Streaming, StreamingOn, Last}
+use Rattle.serial_schedule.specs.declared.duties.Subscription.{Subscription}
 use Rattle.serial_schedule.specs.declared.duties.Duty.{Duty}
 use Rattle.serial_schedule.specs.declared.duties.Duty.TheVariants.{Give, DeliverAll, MakeCall}
 use Rattle.serial_schedule.specs.declared.duties.Signal.{Signal}
 use Rattle.serial_schedule.specs.declared.duties.Signal.TheVariants.{Restart, Lead, Tick}
 use Rattle.serial_schedule.specs.declared.turns.Turn.{Turn}
 use Rattle.serial_schedule.specs.Calling.{IsAllowed, IsNoLetter}
-use Rattle.serial_schedule.specs.Courses.{asked, client_of, confirmation, course_of, enquiry, last_number, next_number, reading_at, request}
+use Rattle.serial_schedule.specs.Courses.{asked, client_of, confirmation, course_of, enquiry, following, following_on, last_number, next_number, reading_at, request, with_entry}
+use Rattle.serial_schedule.specs.Streams.{is_taken, moved_on, wants_more}
 use Rattle.serial_schedule.specs.Driven.{after_event, after_events}
 use Rattle.serial_schedule.specs.Duties.{opening, settling}
 use Rattle.serial_schedule.specs.Noting.{course_or_none, duties_with}
+use Rattle.serial_schedule.specs.Keeping.{IsSubscription}
 use Rattle.serial_schedule.specs.Scheduling.{Scheduled, Waiting, at_first, begun, delivery, entered, first_step, given, is_first_done, next_turn, noted, passed, ready, rest_in, taken, turn_in}
 use Rattle.serial_schedule.proofs.Along.{along, ready-keeps, some_is}
 use Rattle.serial_schedule.proofs.Counted.{ready-undone}
@@ -59,6 +63,9 @@ orderer-is config orderer h = (omega arith, omega arith)
 abbrev pub IsCoursePermitted : Shape → Course → Type 0
 IsCoursePermitted config (Replies reply) = Unit {0}
 IsCoursePermitted config (GoesOn duties) = AllByRecursion (IsPermitted config) duties
+IsCoursePermitted config (Takes position entry next) = IsPermitted config next
+IsCoursePermitted config (Completes position entry) = Unit {0}
+IsCoursePermitted config (Ends last) = Unit {0}
 
 requested-permitted : (config : Shape) (orderer : ℕ) (client : Client) (value : Value) (more : Bool) → nat_lt orderer config.orderers ≡ more → IsWish config value
     → IsCoursePermitted config (cond more (GoesOn (request config orderer client value ∷ [])) (Replies NoLeader))
@@ -74,6 +81,21 @@ read-permitted config shard replica client position true h within =
     ((storage_node-lt config shard.0 replica.0 (ltb-true shard.0 config.shards h) within, tt), tt)
 read-permitted config shard replica client position false h within = tt
 
+with_entry-permitted : (config : Shape) (s : Subscription) (entry : Entry) (more : Bool) → IsSubscription config s
+    → IsCoursePermitted config (cond more (Takes s.position entry (following config (moved_on s entry))) (Completes s.position entry))
+with_entry-permitted config s entry true h = (storage_node-lt config s.shard.0 s.replica.0 h.0 h.1, h)
+with_entry-permitted config s entry false h = tt
+
+found-permitted : (config : Shape) (s : Subscription) (entry : Entry) (taken : Bool) → IsSubscription config s
+    → IsCoursePermitted config (cond taken (with_entry config s entry) (Ends Nothing))
+found-permitted config s entry true h = with_entry-permitted config s entry (wants_more s) h
+found-permitted config s entry false h = tt
+
+told-permitted : (config : Shape) (shard : Shard) (s : Subscription) (more : Bool) → nat_lt shard.0 config.shards ≡ more → IsSubscription config s
+    → IsCoursePermitted config (cond more (GoesOn (following_on config shard.0 s ∷ [])) (Ends (Elsewhere shard)))
+told-permitted config shard s true below h = ((storage_node-lt config shard.0 s.replica.0 (ltb-true shard.0 config.shards below) h.1, h), tt)
+told-permitted config shard s false below h = tt
+
 course-permitted : (config : Shape) (awaited : Awaited) (reply : Reply) → IsAnswerOf config awaited → IsCoursePermitted config (course_of config awaited reply)
 course-permitted config (Storing primary client number) (Stored offset) h =
     each-append (IsPermitted config) (settling config) (enquiry primary client number ∷ []) (settling-permitted config) ((h, tt), tt)
@@ -86,15 +108,23 @@ course-permitted config (Requesting orderer client value) (Taken slot) h =
     (((orderer-is config orderer h.0, h.1), tt), tt)
 course-permitted config (Reading replica client position) (Elsewhere shard) h =
     read-permitted config shard replica client position (nat_lt shard.0 config.shards) refl h
+course-permitted config (Streaming s) (Found position entry) h = found-permitted config s entry (is_taken s entry) h
+course-permitted config (Streaming s) (Elsewhere shard) h = told-permitted config shard s (nat_lt shard.0 config.shards) refl h
+course-permitted config (StreamingOn s) (Found position entry) h = found-permitted config s entry (is_taken s entry) h
 course-permitted config (Storing primary client number) reply h = tt
 course-permitted config (Requesting orderer client value) reply h = tt
 course-permitted config (Reading replica client position) reply h = tt
+course-permitted config (Streaming s) reply h = tt
+course-permitted config (StreamingOn s) reply h = tt
 course-permitted config Last reply h = tt
 
 with-permitted : (config : Shape) (course : Course) (duties : List Duty) → IsCoursePermitted config course → AllByRecursion (IsPermitted config) duties
     → AllByRecursion (IsPermitted config) (duties_with (Some course) duties)
 with-permitted config (Replies reply) duties h rest = rest
 with-permitted config (GoesOn first) duties h rest = each-append (IsPermitted config) first duties h rest
+with-permitted config (Takes position entry next) duties h rest = (h, rest)
+with-permitted config (Completes position entry) duties h rest = rest
+with-permitted config (Ends last) duties h rest = rest
 
 followed-permitted : (config : Shape) (awaited : Option Awaited) (reply : Reply) (duties : List Duty) → IsAnswerOrNone config awaited
     → AllByRecursion (IsPermitted config) duties → AllByRecursion (IsPermitted config) (duties_with (course_or_none config awaited reply) duties)
@@ -152,6 +182,39 @@ taken-permitted s (Replies reply) course h = record {
   run_fits = h.run_fits;
   items = h.items;
   duties = h.duties;
+  answer = h.answer;
+  lanes = h.lanes;
+  room = h.room;
+  kept = h.kept;
+  primaries = h.primaries;
+}
+taken-permitted s (Completes position entry) course h = record {
+  range = h.range;
+  run_fits = h.run_fits;
+  items = h.items;
+  duties = h.duties;
+  answer = h.answer;
+  lanes = h.lanes;
+  room = h.room;
+  kept = h.kept;
+  primaries = h.primaries;
+}
+taken-permitted s (Ends last) course h = record {
+  range = h.range;
+  run_fits = h.run_fits;
+  items = h.items;
+  duties = h.duties;
+  answer = h.answer;
+  lanes = h.lanes;
+  room = h.room;
+  kept = h.kept;
+  primaries = h.primaries;
+}
+taken-permitted s (Takes position entry next) course h = record {
+  range = h.range;
+  run_fits = h.run_fits;
+  items = h.items;
+  duties = (course, h.duties);
   answer = h.answer;
   lanes = h.lanes;
   room = h.room;
@@ -225,6 +288,21 @@ begun-permitted s (Read lane shard replica position) items left h =
       run_fits = h.run_fits;
       items = all.1;
       duties = ((storage_node-lt s.config shard.0 replica.0 is.1 is.2, is.2), h.duties);
+      answer = h.answer;
+      lanes = h.lanes;
+      room = room-less s.draws (length items) room;
+      kept = h.kept;
+      primaries = h.primaries;
+    }
+begun-permitted s (Subscribe lane shard replica from count) items left h =
+    let all = subst (AllByRecursion (IsItem s.config)) left h.items in
+    let is = all.0 in
+    let room = subst (λ (some : List Item). HaveRoom s.draws (length some)) left h.room in
+    record {
+      range = h.range;
+      run_fits = h.run_fits;
+      items = all.1;
+      duties = ((storage_node-lt s.config shard.0 replica.0 is.1 is.2, (is.1, is.2)), h.duties);
       answer = h.answer;
       lanes = h.lanes;
       room = room-less s.draws (length items) room;

@@ -8,7 +8,7 @@ use Rattle.history_frame.specs.declared.events.Event.{Event}
 use Rattle.history_frame.specs.declared.events.Sent.{Sent}
 use Rattle.node_model.specs.Histories.{IsDelivered, IsSent}
 use Rattle.serial_schedule.specs.declared.courses.Course.{Course}
-use Rattle.serial_schedule.specs.declared.courses.Course.TheVariants.{Replies, GoesOn}
+use Rattle.serial_schedule.specs.declared.courses.Course.TheVariants.{Replies, GoesOn, Takes, Completes, Ends}
 use Rattle.serial_schedule.specs.declared.duties.Duty.{Duty}
 use Rattle.serial_schedule.specs.declared.duties.Duty.TheVariants.{Give, DeliverAll, MakeCall}
 use Rattle.serial_schedule.specs.declared.duties.Signal.{Signal}
@@ -71,6 +71,9 @@ new_letters before event place index front (sent ∷ outputs) here count all = (
 taken-posted : (events : List Event) (s : Scheduled) (course : Course) → ArePosted events s → ArePosted events (taken s course)
 taken-posted events s (Replies reply) h = record { place = h.place; each = h.each }
 taken-posted events s (GoesOn duties) h = record { place = h.place; each = h.each }
+taken-posted events s (Takes position entry next) h = record { place = h.place; each = h.each }
+taken-posted events s (Completes position entry) h = record { place = h.place; each = h.each }
+taken-posted events s (Ends last) h = record { place = h.place; each = h.each }
 
 begun-posted : (events : List Event) (s : Scheduled) (item : Item) (items : List Item) → ArePosted events s → ArePosted events (begun s item items)
 begun-posted events s item items h =

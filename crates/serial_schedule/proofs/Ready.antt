@@ -3,7 +3,7 @@ use Rattle.std.proofs.Common.{◌≡◌, ◌&&◌, length, nat_lt, Bool, true, f
 use Rattle.std.proofs.lemmas.Bool.{lt-ltb}
 use Rattle.command_frame.specs.declared.items.Item.{Item}
 use Rattle.serial_schedule.specs.declared.courses.Course.{Course}
-use Rattle.serial_schedule.specs.declared.courses.Course.TheVariants.{Replies, GoesOn}
+use Rattle.serial_schedule.specs.declared.courses.Course.TheVariants.{Replies, GoesOn, Takes, Completes, Ends}
 use Rattle.serial_schedule.specs.declared.duties.Duty.{Duty}
 use Rattle.serial_schedule.specs.Courses.{beginning}
 use Rattle.serial_schedule.specs.Scheduling.{Scheduled, Waiting, begun, begun_next, entered, due, is_done, is_first_done, is_idle, passed, ready, ready_with, taken}
@@ -42,6 +42,9 @@ ready-passed s = ready_with-passed s s.items
 taken-items : (s : Scheduled) (course : Course) → (taken s course).items ≡ s.items
 taken-items s (Replies reply) = refl
 taken-items s (GoesOn duties) = refl
+taken-items s (Takes position entry next) = refl
+taken-items s (Completes position entry) = refl
+taken-items s (Ends last) = refl
 
 -- the items that are left when one begins
 pub begun-items : (s : Scheduled) (item : Item) (items : List Item) → (begun s item items).items ≡ items

@@ -11,22 +11,25 @@ use Rattle.log_base.specs.declared.numbers.Replica.{Replica}
 use Rattle.log_base.specs.declared.numbers.Shard.{Shard}
 use Rattle.record_frame.specs.declared.values.Value.{Value}
 use Rattle.command_frame.specs.declared.items.Item.{Item}
-use Rattle.command_frame.specs.declared.items.Item.TheVariants.{Append, Read, Trim, Add, Finalise, Ask as AskItem}
-use Rattle.reply_frame.specs.declared.replies.Reply.{Reply, Stored, Down, Elsewhere, Taken, NotLeading, NoLeader}
+use Rattle.command_frame.specs.declared.items.Item.TheVariants.{Append, Read, Subscribe, Trim, Add, Finalise, Ask as AskItem}
+use Rattle.record_frame.specs.declared.entries.Entry.{Entry}
+use Rattle.reply_frame.specs.declared.replies.Reply.{Reply, Nothing, Stored, Found, Down, Elsewhere, Taken, NotLeading, NoLeader}
 use Rattle.history_frame.specs.declared.events.Event.{Event}
 use Rattle.history_frame.specs.declared.events.Sent.{Sent}
 use Rattle.history_frame.specs.declared.inputs.Input.{Input}
 use Rattle.history_frame.specs.declared.inputs.Input.TheVariants.{Deliver, Call as ACall, Tick as TickInput, Lead as LeadInput, Stop as StopInput, Restart as RestartInput}
 use Rattle.node_table.specs.Numbering.{nodes_of, orderer_node}
 use Rattle.serial_schedule.specs.declared.courses.Course.{Course}
-use Rattle.serial_schedule.specs.declared.courses.Course.TheVariants.{Replies, GoesOn}
+use Rattle.serial_schedule.specs.declared.courses.Course.TheVariants.{Replies, GoesOn, Takes, Completes, Ends}
 use Rattle.serial_schedule.specs.declared.duties.Awaited.{Awaited}
-use Rattle.serial_schedule.specs.declared.duties.Awaited.TheVariants.{Storing, Requesting, Reading, Last}
+use Rattle.serial_schedule.specs.declared.duties.Awaited.TheVariants.{Storing, Requesting, Reading, Streaming, StreamingOn, Last}
+use Rattle.serial_schedule.specs.declared.duties.Subscription.{Subscription}
 use Rattle.serial_schedule.specs.declared.duties.Duty.{Duty}
 use Rattle.serial_schedule.specs.declared.duties.Duty.TheVariants.{Give, DeliverAll, MakeCall}
 use Rattle.serial_schedule.specs.declared.duties.Signal.TheVariants.{Restart, Lead, Tick}
 use Rattle.serial_schedule.specs.declared.turns.Turn.{Turn}
-use Rattle.serial_schedule.specs.Courses.{asked, beginning, client_of, course_of, last_number, reading_at, request}
+use Rattle.serial_schedule.specs.Courses.{asked, beginning, client_of, course_of, following, following_on, last_number, reading_at, request, with_entry}
+use Rattle.serial_schedule.specs.Streams.{is_taken, moved_on, wants_more}
 use Rattle.serial_schedule.specs.Driven.{IsFollowed, after_event, after_events, next_turn_after, turn_of}
 use Rattle.serial_schedule.specs.Duties.{give}
 use Rattle.serial_schedule.specs.Noting.{course_or_none, duties_with}
@@ -62,6 +65,9 @@ IsNoRestart RestartInput = ⊥
 abbrev pub IsNoStartCourse : Course → Type 0
 IsNoStartCourse (Replies reply) = Unit {0}
 IsNoStartCourse (GoesOn duties) = AreNoStarts duties
+IsNoStartCourse (Takes position entry next) = IsNoStart next
+IsNoStartCourse (Completes position entry) = Unit {0}
+IsNoStartCourse (Ends last) = Unit {0}
 
 requested-starts : (config : Shape) (orderer : ℕ) (client : Client) (value : Value) (more : Bool)
     → IsNoStartCourse (cond more (GoesOn (request config orderer client value ∷ [])) (Replies NoLeader))
@@ -73,20 +79,42 @@ read-starts : (config : Shape) (shard : Shard) (replica : Replica) (client : Cli
 read-starts config shard replica client position true = (tt, tt)
 read-starts config shard replica client position false = tt
 
+with_entry-starts : (config : Shape) (s : Subscription) (entry : Entry) (more : Bool)
+    → IsNoStartCourse (cond more (Takes s.position entry (following config (moved_on s entry))) (Completes s.position entry))
+with_entry-starts config s entry true = tt
+with_entry-starts config s entry false = tt
+
+found-starts : (config : Shape) (s : Subscription) (entry : Entry) (taken : Bool) → IsNoStartCourse (cond taken (with_entry config s entry) (Ends Nothing))
+found-starts config s entry true = with_entry-starts config s entry (wants_more s)
+found-starts config s entry false = tt
+
+told-starts : (config : Shape) (shard : Shard) (s : Subscription) (more : Bool)
+    → IsNoStartCourse (cond more (GoesOn (following_on config shard.0 s ∷ [])) (Ends (Elsewhere shard)))
+told-starts config shard s true = (tt, tt)
+told-starts config shard s false = tt
+
 course-starts : (config : Shape) (awaited : Awaited) (reply : Reply) → IsNoStartCourse (course_of config awaited reply)
 course-starts config (Storing primary client number) (Stored offset) = (tt, (tt, (tt, (tt, (tt, (tt, (tt, (tt, (tt, tt)))))))))
 course-starts config (Requesting orderer client value) NotLeading = requested-starts config (orderer + 1) client value (nat_lt (orderer + 1) config.orderers)
 course-starts config (Requesting orderer client value) Down = requested-starts config (orderer + 1) client value (nat_lt (orderer + 1) config.orderers)
 course-starts config (Requesting orderer client value) (Taken slot) = (tt, (tt, (tt, (tt, (tt, (tt, (tt, (tt, (tt, tt)))))))))
 course-starts config (Reading replica client position) (Elsewhere shard) = read-starts config shard replica client position (nat_lt shard.0 config.shards)
+course-starts config (Streaming s) (Found position entry) = found-starts config s entry (is_taken s entry)
+course-starts config (Streaming s) (Elsewhere shard) = told-starts config shard s (nat_lt shard.0 config.shards)
+course-starts config (StreamingOn s) (Found position entry) = found-starts config s entry (is_taken s entry)
 course-starts config (Storing primary client number) reply = tt
 course-starts config (Requesting orderer client value) reply = tt
 course-starts config (Reading replica client position) reply = tt
+course-starts config (Streaming s) reply = tt
+course-starts config (StreamingOn s) reply = tt
 course-starts config Last reply = tt
 
 with-starts : (course : Course) (duties : List Duty) → IsNoStartCourse course → AreNoStarts duties → AreNoStarts (duties_with (Some course) duties)
 with-starts (Replies reply) duties h rest = rest
 with-starts (GoesOn first) duties h rest = each-append IsNoStart first duties h rest
+with-starts (Takes position entry next) duties h rest = (h, rest)
+with-starts (Completes position entry) duties h rest = rest
+with-starts (Ends last) duties h rest = rest
 
 answer-starts : (config : Shape) (awaited : Option Awaited) (reply : Reply) (duties : List Duty) → AreNoStarts duties
     → AreNoStarts (duties_with (course_or_none config awaited reply) duties)
@@ -104,6 +132,7 @@ asked-starts client number (Some primary) = (tt, tt)
 beginning-starts : (config : Shape) (run : ℕ) (draws : List ℕ) (primaries : List (Option NodeId)) (item : Item) → IsNoStartCourse (beginning config run draws primaries item)
 beginning-starts config run draws primaries (Append lane shard replica bytes) = (tt, tt)
 beginning-starts config run draws primaries (Read lane shard replica position) = (tt, tt)
+beginning-starts config run draws primaries (Subscribe lane shard replica from count) = (tt, tt)
 beginning-starts config run draws primaries (Trim lane position) = (tt, tt)
 beginning-starts config run draws primaries (Add lane shard) = (tt, tt)
 beginning-starts config run draws primaries (Finalise lane shard) = (tt, tt)
@@ -112,6 +141,9 @@ beginning-starts config run draws primaries (AskItem lane) = asked-starts (clien
 taken-starts : (s : Scheduled) (course : Course) → IsNoStartCourse course → AreNoStarts s.duties → AreNoStarts (taken s course).duties
 taken-starts s (Replies reply) starts h = h
 taken-starts s (GoesOn duties) starts h = each-append IsNoStart duties s.duties starts h
+taken-starts s (Takes position entry next) starts h = (starts, h)
+taken-starts s (Completes position entry) starts h = h
+taken-starts s (Ends last) starts h = h
 
 begun-starts : (s : Scheduled) (item : Item) (items : List Item) → AreNoStarts s.duties → AreNoStarts (begun s item items).duties
 begun-starts s item items h =

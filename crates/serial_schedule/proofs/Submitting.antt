@@ -19,7 +19,8 @@ use Rattle.record_frame.specs.Entries.{entry_of}
 use Rattle.command_frame.specs.declared.items.Item.{Item}
 use Rattle.command_frame.specs.declared.items.Item.TheVariants.{Append, Ask as AskItem}
 use Rattle.command_frame.specs.Items.{IsItem}
-use Rattle.reply_frame.specs.declared.replies.Reply.{Reply, Stored, Down, Elsewhere, Taken, NotLeading, NoLeader}
+use Rattle.record_frame.specs.declared.entries.Entry.{Entry}
+use Rattle.reply_frame.specs.declared.replies.Reply.{Reply, Nothing, Stored, Found, Down, Elsewhere, Taken, NotLeading, NoLeader}
 use Rattle.history_frame.specs.declared.events.Event.{Event}
 use Rattle.history_frame.specs.declared.events.Sent.{Sent}
 use Rattle.history_frame.specs.declared.inputs.Call.{Call}
@@ -27,15 +28,17 @@ use Rattle.history_frame.specs.declared.inputs.Call.TheVariants.{Submit, Ask, Re
 use Rattle.history_frame.specs.declared.inputs.Input.TheVariants.{Call as ACall}
 use Rattle.node_model.specs.Legal.{AgreesWith, IsOfRun, submitted}
 use Rattle.serial_schedule.specs.declared.courses.Course.{Course}
-use Rattle.serial_schedule.specs.declared.courses.Course.TheVariants.{Replies, GoesOn}
+use Rattle.serial_schedule.specs.declared.courses.Course.TheVariants.{Replies, GoesOn, Takes, Completes, Ends}
 use Rattle.serial_schedule.specs.declared.duties.Awaited.{Awaited}
-use Rattle.serial_schedule.specs.declared.duties.Awaited.TheVariants.{Storing, Requesting, Reading, Last}
+use Rattle.serial_schedule.specs.declared.duties.Awaited.TheVariants.{Storing, Requesting, Reading, Streaming, StreamingOn, Last}
+use Rattle.serial_schedule.specs.declared.duties.Subscription.{Subscription}
 use Rattle.serial_schedule.specs.declared.duties.Duty.{Duty}
 use Rattle.serial_schedule.specs.declared.duties.Duty.TheVariants.{Give, DeliverAll, MakeCall}
 use Rattle.serial_schedule.specs.declared.duties.Signal.{Signal}
 use Rattle.serial_schedule.specs.declared.duties.Signal.TheVariants.{Restart, Lead, Tick}
 use Rattle.serial_schedule.specs.declared.turns.Turn.{Turn}
-use Rattle.serial_schedule.specs.Courses.{asked, client_of, confirmation, course_of, enquiry, last_number, reading_at, request}
+use Rattle.serial_schedule.specs.Courses.{asked, client_of, confirmation, course_of, enquiry, following, following_on, last_number, reading_at, request, with_entry}
+use Rattle.serial_schedule.specs.Streams.{is_taken, moved_on, wants_more}
 use Rattle.serial_schedule.specs.Driven.{Follow, after_event, after_events, turn_of}
 use Rattle.serial_schedule.specs.Duties.{settling, signal_input}
 use Rattle.serial_schedule.specs.Noting.{course_or_none, duties_with}
@@ -273,6 +276,9 @@ first-plain before s (MakeCall node call awaited ∷ duties) e h = h.1
 abbrev pub IsPlainCourse : Course → Type 0
 IsPlainCourse (Replies reply) = Unit {0}
 IsPlainCourse (GoesOn duties) = AllByRecursion IsPlain duties
+IsPlainCourse (Takes position entry next) = IsPlain next
+IsPlainCourse (Completes position entry) = Unit {0}
+IsPlainCourse (Ends last) = Unit {0}
 
 settling-plain : (config : Shape) → AllByRecursion IsPlain (settling config)
 settling-plain config = (tt, (tt, (tt, (tt, (tt, (tt, (tt, (tt, tt))))))))
@@ -287,6 +293,20 @@ read-plain : (config : Shape) (shard : Shard) (replica : Replica) (client : Clie
 read-plain config shard replica client position true = (tt, tt)
 read-plain config shard replica client position false = tt
 
+with_entry-plain : (config : Shape) (s : Subscription) (entry : Entry) (more : Bool)
+    → IsPlainCourse (cond more (Takes s.position entry (following config (moved_on s entry))) (Completes s.position entry))
+with_entry-plain config s entry true = tt
+with_entry-plain config s entry false = tt
+
+found-plain : (config : Shape) (s : Subscription) (entry : Entry) (taken : Bool) → IsPlainCourse (cond taken (with_entry config s entry) (Ends Nothing))
+found-plain config s entry true = with_entry-plain config s entry (wants_more s)
+found-plain config s entry false = tt
+
+told-plain : (config : Shape) (shard : Shard) (s : Subscription) (more : Bool)
+    → IsPlainCourse (cond more (GoesOn (following_on config shard.0 s ∷ [])) (Ends (Elsewhere shard)))
+told-plain config shard s true = (tt, tt)
+told-plain config shard s false = tt
+
 course-plain : (config : Shape) (awaited : Awaited) (reply : Reply) → IsPlainCourse (course_of config awaited reply)
 course-plain config (Storing primary client number) (Stored offset) =
     each-append IsPlain (settling config) (enquiry primary client number ∷ []) (settling-plain config) (tt, tt)
@@ -295,14 +315,22 @@ course-plain config (Requesting orderer client value) Down = requested-plain con
 course-plain config (Requesting orderer client value) (Taken slot) =
     each-append IsPlain (settling config) (confirmation config orderer client value slot ∷ []) (settling-plain config) (tt, tt)
 course-plain config (Reading replica client position) (Elsewhere shard) = read-plain config shard replica client position (nat_lt shard.0 config.shards)
+course-plain config (Streaming s) (Found position entry) = found-plain config s entry (is_taken s entry)
+course-plain config (Streaming s) (Elsewhere shard) = told-plain config shard s (nat_lt shard.0 config.shards)
+course-plain config (StreamingOn s) (Found position entry) = found-plain config s entry (is_taken s entry)
 course-plain config (Storing primary client number) reply = tt
 course-plain config (Requesting orderer client value) reply = tt
 course-plain config (Reading replica client position) reply = tt
+course-plain config (Streaming s) reply = tt
+course-plain config (StreamingOn s) reply = tt
 course-plain config Last reply = tt
 
 with-plain : (course : Course) (duties : List Duty) → IsPlainCourse course → AllByRecursion IsPlain duties → AllByRecursion IsPlain (duties_with (Some course) duties)
 with-plain (Replies reply) duties h rest = rest
 with-plain (GoesOn first) duties h rest = each-append IsPlain first duties h rest
+with-plain (Takes position entry next) duties h rest = (h, rest)
+with-plain (Completes position entry) duties h rest = rest
+with-plain (Ends last) duties h rest = rest
 
 followed-plain : (config : Shape) (awaited : Option Awaited) (reply : Reply) (duties : List Duty) → AllByRecursion IsPlain duties
     → AllByRecursion IsPlain (duties_with (course_or_none config awaited reply) duties)

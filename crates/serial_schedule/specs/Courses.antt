@@ -10,17 +10,20 @@ use Rattle.log_base.specs.declared.numbers.Replica.{Replica}
 use Rattle.record_frame.specs.declared.values.Value.{Value}
 use Rattle.record_frame.specs.declared.values.Value.TheVariants.{Add as AddValue, Finalise as FinaliseValue, Trim as TrimValue}
 use Rattle.command_frame.specs.declared.items.Item.{Item}
-use Rattle.command_frame.specs.declared.items.Item.TheVariants.{Append, Read, Trim, Add, Finalise, Ask as AskItem}
-use Rattle.reply_frame.specs.declared.replies.Reply.{Reply, Stored, Down, Elsewhere, Taken, NotLeading, NoLeader, NothingKept}
+use Rattle.command_frame.specs.declared.items.Item.TheVariants.{Append, Read, Subscribe, Trim, Add, Finalise, Ask as AskItem}
+use Rattle.record_frame.specs.declared.entries.Entry.{Entry}
+use Rattle.reply_frame.specs.declared.replies.Reply.{Reply, Nothing, Stored, Found, Down, Elsewhere, Taken, NotLeading, NoLeader, NothingKept}
 use Rattle.history_frame.specs.declared.inputs.Call.TheVariants.{Submit, Ask, Read as ReadCall, Request, Settled}
 use Rattle.node_table.specs.Numbering.{orderer_node, storage_node}
 use Rattle.serial_schedule.specs.declared.duties.Awaited.{Awaited}
-use Rattle.serial_schedule.specs.declared.duties.Awaited.TheVariants.{Storing, Requesting, Reading, Last}
+use Rattle.serial_schedule.specs.declared.duties.Awaited.TheVariants.{Storing, Requesting, Reading, Streaming, StreamingOn, Last}
+use Rattle.serial_schedule.specs.declared.duties.Subscription.{Subscription}
 use Rattle.serial_schedule.specs.declared.duties.Duty.{Duty}
 use Rattle.serial_schedule.specs.declared.duties.Duty.TheVariants.{MakeCall}
 use Rattle.serial_schedule.specs.declared.courses.Course.{Course}
-use Rattle.serial_schedule.specs.declared.courses.Course.TheVariants.{Replies, GoesOn}
+use Rattle.serial_schedule.specs.declared.courses.Course.TheVariants.{Replies, GoesOn, Takes, Completes, Ends}
 use Rattle.serial_schedule.specs.Duties.{settling}
+use Rattle.serial_schedule.specs.Streams.{is_taken, moved_on, subscription_at, wants_more}
 
 -- ---- calls
 
@@ -51,6 +54,14 @@ abbrev pub reading_at : Shape → ℕ → Replica → Client → Position → Aw
 reading_at config shard replica client position awaited =
     MakeCall (record { 0 = storage_node config shard replica.0 }) (ReadCall client position) awaited
 
+-- a subscription asks the replica that it names for its position
+abbrev pub following : Shape → Subscription → Duty
+following config s = reading_at config s.shard.0 s.replica s.client s.position (Streaming s)
+
+-- and, where it is told to, the replica of the same number in another shard
+abbrev pub following_on : Shape → ℕ → Subscription → Duty
+following_on config shard s = reading_at config shard s.replica s.client s.position (StreamingOn s)
+
 -- ---- answers
 
 -- A value is requested of this orderer, if there is one.
@@ -58,10 +69,19 @@ abbrev pub requested : Shape → ℕ → Client → Value → Course
 requested config orderer client value =
     if nat_lt orderer config.orderers then GoesOn (request config orderer client value ∷ []) else Replies NoLeader
 
+-- An entry that is found is taken, and the next position is asked for, or the count is reached. An entry that is not taken is left
+-- out, and the stream ends without an answer.
+abbrev pub with_entry : Shape → Subscription → Entry → Course
+with_entry config s entry = if wants_more s then Takes s.position entry (following config (moved_on s entry)) else Completes s.position entry
+
+abbrev pub found : Shape → Subscription → Entry → Course
+found config s entry = if is_taken s entry then with_entry config s entry else Ends Nothing
+
 -- What an answer means. A stored append is asked for once the cluster has settled. A request goes on to the next orderer where
 -- this one does not lead or is down; a request that is taken is asked for at the same orderer once the cluster has settled. A
--- read goes on to the replica of the same number in the shard that is told to have the position, and only once. All else is the
--- reply.
+-- read goes on to the replica of the same number in the shard that is told to have the position, and only once. A subscription does
+-- for each of its positions what a read does, until its count is reached or an answer is not the entry: that answer ends its stream.
+-- All else is the reply.
 abbrev pub course_of : Shape → Awaited → Reply → Course
 course_of config (Storing primary client number) (Stored offset) = GoesOn (settling config ++ enquiry primary client number ∷ [])
 course_of config (Requesting orderer client value) NotLeading = requested config (orderer + 1) client value
@@ -69,6 +89,12 @@ course_of config (Requesting orderer client value) Down = requested config (orde
 course_of config (Requesting orderer client value) (Taken slot) = GoesOn (settling config ++ confirmation config orderer client value slot ∷ [])
 course_of config (Reading replica client position) (Elsewhere shard) =
     if nat_lt shard.0 config.shards then GoesOn (reading_at config shard.0 replica client position Last ∷ []) else Replies (Elsewhere shard)
+course_of config (Streaming s) (Found position entry) = found config s entry
+course_of config (Streaming s) (Elsewhere shard) =
+    if nat_lt shard.0 config.shards then GoesOn (following_on config shard.0 s ∷ []) else Ends (Elsewhere shard)
+course_of config (Streaming s) reply = Ends reply
+course_of config (StreamingOn s) (Found position entry) = found config s entry
+course_of config (StreamingOn s) reply = Ends reply
 course_of config _ reply = Replies reply
 
 -- ---- beginnings
@@ -93,6 +119,8 @@ beginning config run draws primaries (Append lane shard replica bytes) =
     GoesOn (submission (record { 0 = storage_node config shard.0 replica.0 }) (client_of lane) (next_number run draws lane) bytes ∷ [])
 beginning config run draws primaries (Read lane shard replica position) =
     GoesOn (reading_at config shard.0 replica (client_of lane) position (Reading replica (client_of lane) position) ∷ [])
+beginning config run draws primaries (Subscribe lane shard replica from count) =
+    GoesOn (following config (subscription_at shard replica (client_of lane) from count) ∷ [])
 beginning config run draws primaries (Trim lane position) = GoesOn (request config 0 (client_of lane) (TrimValue position) ∷ [])
 beginning config run draws primaries (Add lane shard) = GoesOn (request config 0 (client_of lane) (AddValue shard) ∷ [])
 beginning config run draws primaries (Finalise lane shard) = GoesOn (request config 0 (client_of lane) (FinaliseValue shard) ∷ [])

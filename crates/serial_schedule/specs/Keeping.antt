@@ -1,5 +1,5 @@
 -- What is so of every schedule of a run, and what its letters are made of.
-use Rattle.std.specs.Prelude.{◌≡◌, ℕ, ◌+◌, ◌<◌, ◌≤◌, List, [], ◌∷◌, length, slice_index, Option, Some, None, Result, Ok, Err}
+use Rattle.std.specs.Prelude.{◌≡◌, ℕ, ◌+◌, ◌<◌, ◌≤◌, ◌^◌, List, [], ◌∷◌, length, slice_index, Option, Some, None, Result, Ok, Err}
 use Rattle.std.specs.List.{AllByRecursion}
 use Rattle.log_base.specs.ClusterShape.{Shape}
 use Rattle.record_frame.specs.declared.refusals.Refusal.{Refusal}
@@ -12,11 +12,12 @@ use Rattle.message_frame.specs.declared.messages.Message.TheVariants.{Want}
 use Rattle.message_frame.specs.Reading.{message_of}
 use Rattle.node_table.specs.Numbering.{nodes_of}
 use Rattle.serial_schedule.specs.declared.duties.Awaited.{Awaited}
-use Rattle.serial_schedule.specs.declared.duties.Awaited.TheVariants.{Storing, Requesting, Reading, Last}
+use Rattle.serial_schedule.specs.declared.duties.Awaited.TheVariants.{Storing, Requesting, Reading, Streaming, StreamingOn, Last}
 use Rattle.serial_schedule.specs.declared.duties.Duty.{Duty}
+use Rattle.serial_schedule.specs.declared.duties.Subscription.{Subscription}
 use Rattle.serial_schedule.specs.declared.duties.Duty.TheVariants.{Give, DeliverAll, MakeCall}
 use Rattle.serial_schedule.specs.declared.courses.Course.{Course}
-use Rattle.serial_schedule.specs.declared.courses.Course.TheVariants.{Replies, GoesOn}
+use Rattle.serial_schedule.specs.declared.courses.Course.TheVariants.{Replies, GoesOn, Takes, Completes, Ends}
 
 -- a reply that holds no other
 abbrev pub IsSingle : Reply → Type 0
@@ -41,11 +42,17 @@ AreRead (Err refusal) = ⊥
 
 -- ---- duties of a cluster
 
+-- the shard and the replica that a subscription names are the cluster's
+abbrev pub IsSubscription : Shape → Subscription → Type 0
+IsSubscription config s = (s.shard.0 < config.shards) × (s.replica.0 < config.replicas)
+
 -- the orderer and the replica of an answer are the cluster's
 abbrev pub IsAwaited : Shape → Awaited → Type 0
 IsAwaited config (Storing primary client number) = Unit {0}
 IsAwaited config (Requesting orderer client value) = orderer < config.orderers
 IsAwaited config (Reading replica client position) = replica.0 < config.replicas
+IsAwaited config (Streaming s) = IsSubscription config s
+IsAwaited config (StreamingOn s) = IsSubscription config s
 IsAwaited config Last = Unit {0}
 
 abbrev pub IsAwaitedOr : Shape → Option Awaited → Type 0
@@ -61,6 +68,17 @@ IsDuty config (MakeCall node call awaited) = IsAwaited config awaited
 abbrev pub IsCourse : Shape → Course → Type 0
 IsCourse config (Replies reply) = Unit {0}
 IsCourse config (GoesOn duties) = AllByRecursion (IsDuty config) duties
+IsCourse config (Takes position entry next) = IsDuty config next
+IsCourse config (Completes position entry) = Unit {0}
+IsCourse config (Ends last) = Unit {0}
+
+-- a reply alone holds no other, and entries are taken at positions that a log may have
+abbrev pub IsMade : Course → Type 0
+IsMade (Replies reply) = IsSingle reply
+IsMade (GoesOn duties) = Unit {0}
+IsMade (Takes position entry next) = position.0 < 2 ^ 31
+IsMade (Completes position entry) = position.0 < 2 ^ 31
+IsMade (Ends last) = Unit {0}
 
 -- a signal or a call comes first
 abbrev pub IsGiven : List Duty → Type 0

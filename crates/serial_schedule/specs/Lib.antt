@@ -1,4 +1,5 @@
 pub mod Duties
+pub mod Streams
 pub mod Courses
 pub mod Scheduling
 pub mod Keeping

@@ -4,8 +4,9 @@ use Rattle.log_base.specs.ClusterShape.{Shape}
 use Rattle.log_base.specs.declared.numbers.NodeId.{NodeId}
 use Rattle.node_table.specs.Numbering.{storage_node}
 use Rattle.command_frame.specs.declared.items.Item.{Item}
-use Rattle.command_frame.specs.declared.items.Item.TheVariants.{Append}
-use Rattle.reply_frame.specs.declared.replies.Reply.{Reply}
+use Rattle.command_frame.specs.declared.items.Item.TheVariants.{Append, Subscribe}
+use Rattle.reply_frame.specs.declared.replies.Reply.{Reply, Nothing}
+use Rattle.subscriber.specs.Following.{Following, after_offer, following_from}
 use Rattle.history_frame.specs.declared.events.Sent.{Sent}
 use Rattle.history_frame.specs.declared.inputs.Input.{Input}
 use Rattle.history_frame.specs.declared.inputs.Input.TheVariants.{Deliver, Call as ACall}
@@ -13,10 +14,11 @@ use Rattle.serial_schedule.specs.declared.duties.Awaited.{Awaited}
 use Rattle.serial_schedule.specs.declared.duties.Duty.{Duty}
 use Rattle.serial_schedule.specs.declared.duties.Duty.TheVariants.{Give, DeliverAll, MakeCall}
 use Rattle.serial_schedule.specs.declared.courses.Course.{Course}
-use Rattle.serial_schedule.specs.declared.courses.Course.TheVariants.{Replies, GoesOn}
+use Rattle.serial_schedule.specs.declared.courses.Course.TheVariants.{Replies, GoesOn, Takes, Completes, Ends}
 use Rattle.serial_schedule.specs.declared.turns.Turn.{Turn}
 use Rattle.serial_schedule.specs.Duties.{opening, signal_input}
 use Rattle.serial_schedule.specs.Courses.{beginning, course_of}
+use Rattle.serial_schedule.specs.Streams.{nothing_taken, stream_of}
 
 -- A letter that waits: the output with this index of the event at this place.
 pub record Waiting : Type 0 where
@@ -26,7 +28,7 @@ pub record Waiting : Type 0 where
 
 -- The schedule: the items that have not begun, what is due before the next of them begins, the letters in the queue, in order of
 -- posting, the answer that is awaited, if one is, how many events there were, how many numbers each lane has drawn, the primary of
--- its last append, if it has one, and the replies to the items that are done.
+-- its last append, if it has one, what the subscription under way has taken, and the replies to the items that are done.
 pub record Scheduled : Type 0 where
   pub config : Shape
   pub run : ℕ
@@ -37,6 +39,7 @@ pub record Scheduled : Type 0 where
   pub place : ℕ
   pub draws : List ℕ
   pub primaries : List (Option NodeId)
+  pub stream : Following
   pub replies : List Reply
 
 -- at first the opening is due, and none of the 64 lanes has drawn a number
@@ -51,15 +54,20 @@ at_first config run items = record {
   place = 0;
   draws = replicate 64 0;
   primaries = replicate 64 None;
+  stream = nothing_taken;
   replies = [];
 }
 
 -- ---- how an item goes
 
--- an item is answered, or duties come before all others
+-- An item is answered, or duties come before all others; a subscription takes an entry and goes on, or its stream is the reply.
 abbrev pub taken : Scheduled → Course → Scheduled
 taken s (Replies reply) = record s { replies = s.replies ++ reply ∷ [] }
 taken s (GoesOn duties) = record s { duties = duties ++ s.duties }
+taken s (Takes position entry next) = record s { duties = next ∷ s.duties; stream = after_offer s.stream position.0 entry }
+taken s (Completes position entry) =
+    record s { replies = s.replies ++ stream_of (after_offer s.stream position.0 entry) Nothing ∷ []; stream = nothing_taken }
+taken s (Ends last) = record s { replies = s.replies ++ stream_of s.stream last ∷ []; stream = nothing_taken }
 
 -- the lane of an append draws a number
 abbrev pub drawn : Item → List ℕ → List ℕ
@@ -71,9 +79,19 @@ abbrev pub primaries_after : Shape → Item → List (Option NodeId) → List (O
 primaries_after config (Append lane shard replica bytes) primaries = slice_set primaries lane (Some (record { 0 = storage_node config shard.0 replica.0 }))
 primaries_after config item primaries = primaries
 
+-- a subscription takes the entries of the positions from its first on
+abbrev pub stream_before : Item → Following → Following
+stream_before (Subscribe lane shard replica from count) stream = following_from from.0
+stream_before item stream = stream
+
 -- an item is taken out, and these are left
 abbrev pub entered : Scheduled → Item → List Item → Scheduled
-entered s item items = record s { items = items; draws = drawn item s.draws; primaries = primaries_after s.config item s.primaries }
+entered s item items = record s {
+  items = items;
+  draws = drawn item s.draws;
+  primaries = primaries_after s.config item s.primaries;
+  stream = stream_before item s.stream;
+}
 
 -- an item begins, and these are left
 abbrev pub begun : Scheduled → Item → List Item → Scheduled

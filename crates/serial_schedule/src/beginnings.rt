@@ -6,17 +6,19 @@ ghost use Rattle.log_base.specs.Shape.{shape};
 ghost use Rattle.command_frame.specs.Items.{IsItem};
 ghost use Rattle.serial_schedule.specs.Courses.{asked, beginning, client_of, last_number, reading_at, request, submission};
 ghost use Rattle.serial_schedule.specs.Keeping.{HasRoom};
-ghost use Rattle.serial_schedule.specs.Scheduling.{drawn, primaries_after};
+ghost use Rattle.serial_schedule.specs.Scheduling.{drawn, primaries_after, stream_before};
 
 use crate::calls::{enquiry, reading, request};
 use crate::courses::{Course, goes_on};
 use crate::duties::{Awaited, Duty};
+use crate::streams::{following, subscription_at};
 use command_frame::{Item, Reply};
 use history_frame::Call;
 use log_base::{Bytes, Client, Config, Memory, NodeId, Number, Position, Replica, Shard};
 use node_table::storage;
 use record_frame::Value;
 use std::alloc::Global;
+use subscriber::Subscriber;
 
 /// How an item begins.
 pub fn first_course(
@@ -52,6 +54,16 @@ pub fn first_course(
             let client = client_of(*lane);
             let duty = first_reading(config, *shard, *replica, client, *position);
             goes_on(alloc, duty)
+        }
+        Item::Subscribe {
+            lane,
+            shard,
+            replica,
+            from,
+            count,
+        } => {
+            let first = subscription_at(*shard, *replica, client_of(*lane), *from, *count);
+            goes_on(alloc, following(config, first))
         }
         Item::Trim { lane, position } => wish(alloc, config, *lane, Value::Trim(*position)),
         Item::Add { lane, shard } => wish(alloc, config, *lane, Value::Add(*shard)),
@@ -90,6 +102,15 @@ pub fn keep_primary(config: &Config, primaries: &mut [Option<NodeId>; 64], item:
     } = item
     {
         primaries[usize::from(*lane)] = Some(storage(config, *shard, *replica));
+    }
+}
+
+/// A subscription takes the entries of the positions from its first on.
+pub fn follow_from(alloc: Global, subscriber: &mut Subscriber, item: &Item)
+    ensures { subscriber.new ≡ stream_before item.now subscriber.old }
+{
+    if let Item::Subscribe { from, .. } = item {
+        *subscriber = Subscriber::new(alloc, *from);
     }
 }
 

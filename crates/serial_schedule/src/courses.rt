@@ -10,9 +10,10 @@ use crate::calls::{confirmation, enquiry, reading, request};
 use crate::duties::{Awaited, Duty};
 use crate::replies::copy_reply;
 use crate::rounds::settling;
+use crate::streams::{after_position, after_told};
 use command_frame::Reply;
 use log_base::{Client, Config, List, Memory, NodeId, Number, Position, Replica};
-use record_frame::Value;
+use record_frame::{Entry, Value};
 use std::alloc::Global;
 
 /// How an item goes on after an answer.
@@ -22,6 +23,19 @@ pub enum Course {
     Replies(Reply),
     /// These are due before all else.
     GoesOn(List<Duty>),
+    /// The entry of a position is taken, and the next position is asked for.
+    Takes {
+        position: Position,
+        entry: Entry,
+        next: Duty,
+    },
+    /// The entry of a position is taken, and it is the last that is wanted.
+    Completes {
+        position: Position,
+        entry: Entry,
+    },
+    /// The stream ends with this answer.
+    Ends(Reply),
 }
 
 /// What an answer means for its item.
@@ -51,6 +65,8 @@ pub fn course_after(
             client,
             position,
         } => after_read(alloc, config, *replica, *client, *position, reply),
+        Awaited::Streaming(subscription) => after_position(alloc, config, subscription, reply),
+        Awaited::StreamingOn(subscription) => after_told(alloc, config, subscription, reply),
         Awaited::Last => replies(alloc, reply),
     }
 }

@@ -1,7 +1,7 @@
 //! What is due.
 
 use history_frame::Call;
-use log_base::{Client, NodeId, Number, Position, Replica};
+use log_base::{Client, NodeId, Number, Position, Replica, Shard};
 use record_frame::Value;
 
 /// An input that the schedule gives by itself. No answer is wanted of it.
@@ -10,6 +10,21 @@ pub enum Signal {
     Restart,
     Lead,
     Tick,
+}
+
+/// Where a subscription stands.
+#[derive(Clone, Copy, Debug, PartialEq, Eq)]
+pub struct Subscription {
+    /// The shard and the replica that are asked.
+    pub shard: Shard,
+    pub replica: Replica,
+    pub client: Client,
+    /// The position that is asked for.
+    pub position: Position,
+    /// How many entries are wanted from there on.
+    pub count: u16,
+    /// For how many bytes of entries the reply has room.
+    pub room: u32,
 }
 
 /// Which answer is awaited.
@@ -33,6 +48,10 @@ pub enum Awaited {
         client: Client,
         position: Position,
     },
+    /// A replica's, to the first read of a subscription's position.
+    Streaming(Subscription),
+    /// The told shard's, to the second.
+    StreamingOn(Subscription),
     /// The last, which is the reply.
     Last,
 }

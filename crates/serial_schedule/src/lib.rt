@@ -16,6 +16,7 @@ mod passing;
 mod replies;
 mod rounds;
 mod schedule;
+mod streams;
 mod turns;
 
 pub use laws::{

@@ -9,7 +9,7 @@ use record_frame::Entry;
 use std::alloc::Global;
 
 /// A copy of an entry.
-fn copy_entry(alloc: Global, entry: &Entry) -> Result<Entry, Memory>
+pub fn copy_entry(alloc: Global, entry: &Entry) -> Result<Entry, Memory>
     ensures { IfOk result (λ copy. copy ≡ entry.now) }
 {
     let bytes = Vec::from_slice(alloc, entry.bytes.get())?;

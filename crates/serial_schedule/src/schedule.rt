@@ -8,8 +8,9 @@ ghost use Rattle.history_frame.specs.Spelling.{IsSent};
 ghost use Rattle.event_letters.specs.Letters.{parcel};
 ghost use Rattle.serial_schedule.specs.Scheduling.{at_first, begun_next, delivery, first_step, given, is_first_done, is_idle, next_turn, noted, passed, ready, rest_in, turn_in};
 ghost use Rattle.serial_schedule.specs.Keeping.{IsGiven, IsSingle};
+ghost use Rattle.command_frame.specs.Streams.{unplaced};
 
-use crate::beginnings::{draw, first_course, keep_primary, no_draws};
+use crate::beginnings::{draw, first_course, follow_from, keep_primary, no_draws};
 use crate::duties::{Awaited, Duty};
 use crate::letters::Letter;
 use crate::noting::{follow, go_on, post};
@@ -18,10 +19,11 @@ use crate::rounds::{opening, signal_input};
 use crate::turns::Turn;
 use command_frame::{Item, Reply};
 use history_frame::{Happened, Input};
-use log_base::{Config, Memory, NodeId, Outbox};
+use log_base::{Config, Memory, NodeId, Outbox, Position};
 use std::alloc::Global;
 use std::collections::VecDeque;
 use std::marker::Model;
+use subscriber::Subscriber;
 
 /// The schedule of a run over borrowed items.
 #[derive(Debug, Drop)]
@@ -36,6 +38,7 @@ pub struct Schedule<'a> {
     place: u32,
     draws: [u32; 64],
     primaries: [Option<NodeId>; 64],
+    subscriber: Subscriber,
     replies: Vec<Reply>,
 }
 
@@ -45,6 +48,8 @@ impl<'a> Model for Schedule<'a> {
     ghost use Rattle.reply_frame.specs.contracts.replies.Reply as reply;
     ghost use Rattle.serial_schedule.specs.Keeping.{IsKept};
     ghost use Rattle.serial_schedule.specs.Scheduling.{Scheduled};
+    ghost use Rattle.command_frame.specs.Streams.{unplaced};
+    ghost use Rattle.std.specs.Prelude.{map};
 
     ghost Value = { Scheduled };
 
@@ -60,7 +65,8 @@ impl<'a> Model for Schedule<'a> {
       place = s.place;
       draws = s.draws;
       primaries = s.primaries;
-      replies = s.replies.items;
+      stream = s.subscriber;
+      replies = map unplaced s.replies.items;
     } };
 
     ghost invariant = { λ s. IsKept (shape s.config) s.run s.items.now s.duties.items s.awaited s.draws };
@@ -91,6 +97,7 @@ impl<'a> Schedule<'a> {
             place: 0,
             draws: no_draws(),
             primaries: [None; 64],
+            subscriber: Subscriber::new(alloc, Position(0)),
             replies: Vec::new(alloc),
         })
     }
@@ -124,6 +131,7 @@ impl<'a> Schedule<'a> {
             &self.config,
             &self.awaited,
             &happened.reply,
+            &mut self.subscriber,
             &mut self.duties,
             &mut self.replies,
         )?;
@@ -147,9 +155,10 @@ impl<'a> Schedule<'a> {
         self.queue.len()
     }
 
-    /// The replies to the items that are done, in order of the items.
+    /// The replies to the items that are done, in order of the items. It is not told where the last answer of a
+    /// stream stands in memory.
     pub fn into_replies(self) -> Vec<Reply>
-        ensures { result.items ≡ self.entry.replies }
+        ensures { map unplaced result.items ≡ self.entry.replies }
     {
         self.replies
     }
@@ -197,7 +206,14 @@ impl<'a> Schedule<'a> {
                 &self.primaries,
                 item,
             )?;
-            go_on(course, &mut self.duties, &mut self.replies)?;
+            go_on(
+                self.alloc,
+                course,
+                &mut self.subscriber,
+                &mut self.duties,
+                &mut self.replies,
+            )?;
+            follow_from(self.alloc, &mut self.subscriber, item);
             draw(&mut self.draws, item);
             keep_primary(&self.config, &mut self.primaries, item);
             self.items = items;

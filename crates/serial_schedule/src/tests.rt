@@ -1,7 +1,7 @@
 //! Runs whose nodes answer by a table. Of two shards of two replicas with one gatherer and three orderers, nodes
 //! 0 to 3 store, 4 gathers, and 5 to 7 order.
 
-ghost use Rattle.std.specs.Prelude.{◌≡◌, IfOk};
+ghost use Rattle.std.specs.Prelude.{◌≡◌, ◌≤◌, IfOk};
 ghost use Rattle.command_frame.specs.Items.{IsItem};
 ghost use Rattle.serial_schedule.specs.Keeping.{IsSingle};
 ghost use Rattle.serial_schedule.specs.Worked.{two_by_two};
@@ -11,10 +11,11 @@ use command_frame::{Item, Reply};
 use event_letters::EventLetters;
 use history_frame::{Call, Happened, Input, Mark};
 use log_base::{
-    Ballot, Bytes, Config, List, Memory, NodeId, Outbox, Position, Replica, Shard, Slot,
+    Ballot, Bytes, Client, Config, List, Memory, NodeId, Number, Outbox, Position, Replica, Shard,
+    Slot,
 };
 use message_frame::Message;
-use record_frame::Value;
+use record_frame::{Entry, Value};
 use std::alloc::Global;
 use std::test::Fail;
 
@@ -32,10 +33,12 @@ enum Says {
     Stored,
     Missing,
     NoSuchShard,
+    Found,
+    AtTheEnd,
 }
 
 impl Says {
-    fn reply(self) -> Reply
+    fn reply(self, alloc: Global) -> Reply
         ensures { IsSingle result }
     {
         match self {
@@ -50,7 +53,23 @@ impl Says {
             Says::Stored => Reply::Stored { offset: 0 },
             Says::Missing => Reply::Missing,
             Says::NoSuchShard => Reply::NoSuchShard,
+            Says::Found => found(alloc),
+            Says::AtTheEnd => Reply::PendingRead { end: Position(7) },
         }
+    }
+}
+
+/// The empty record of client 2 at position 5.
+fn found(alloc: Global) -> Reply
+    ensures { IsSingle result }
+{
+    Reply::Found {
+        position: Position(5),
+        entry: Entry {
+            client: Client(2),
+            number: Number(4),
+            bytes: Bytes::of(Vec::new(alloc)),
+        },
     }
 }
 
@@ -157,7 +176,7 @@ fn take(
         input,
         mark: Mark::Done,
         outputs: List::of(Vec::new(alloc)),
-        reply: says.reply(),
+        reply: says.reply(alloc),
     };
     schedule.note(&happened, &mut Outbox::new(alloc))?;
     Ok(true)
@@ -313,5 +332,52 @@ fn a_letter_is_delivered(rt: HostRuntime) -> Result<(), Fail> {
     assert_eq!(rt; schedule.waiting(), 1);
     assert!(rt; is_delivered(alloc, &mut schedule)?);
     assert!(rt; schedule.next()?.is_none());
+    Ok(())
+}
+
+/// A subscription asks replica 1 of shard 0 for each position, and goes on to shard 1 for the second. Another takes
+/// the one entry that it wants.
+const FOLLOWED: [Row; 5] = [
+    (1, "read", Says::Found),
+    (1, "read", Says::Elsewhere),
+    (3, "read", Says::Found),
+    (1, "read", Says::AtTheEnd),
+    (1, "read", Says::Found),
+];
+
+const STREAMS: &str = "[\
+    Stream { from: Position(5), entries: List { inner: [\
+    Entry { client: Client(2), number: Number(4), bytes: Bytes { inner: [] } }, \
+    Entry { client: Client(2), number: Number(4), bytes: Bytes { inner: [] } }] }, \
+    last: PendingRead { end: Position(7) } }, \
+    Stream { from: Position(5), entries: List { inner: [\
+    Entry { client: Client(2), number: Number(4), bytes: Bytes { inner: [] } }] }, last: Nothing }]";
+
+/// A subscription to entries of replica 1 of shard 0, from position 5 on.
+fn subscription(count: u16) -> Item
+    requires some { 1 ≤ count }
+    requires few { count ≤ 4096 }
+    ensures { IsItem two_by_two result }
+{
+    Item::Subscribe {
+        lane: 1,
+        shard: Shard(0),
+        replica: Replica(1),
+        from: Position(5),
+        count,
+    }
+}
+
+#[test]
+fn subscriptions_go_on(rt: HostRuntime) -> Result<(), Fail> {
+    let alloc = rt.alloc();
+    let config = Config::new(2, 2, 3, 1)?;
+    let items = [subscription(9), subscription(1)];
+    let mut schedule = Schedule::new(alloc, config, 1, &items)?;
+    assert!(rt; are_next(alloc, &mut schedule, &OPENING)?);
+    assert!(rt; are_next(alloc, &mut schedule, &FOLLOWED)?);
+    assert!(rt; schedule.next()?.is_none());
+    let replies = format!(in alloc; "{:?}", schedule.into_replies())?;
+    assert_eq!(rt; replies.as_str(), STREAMS);
     Ok(())
 }

@@ -45,6 +45,13 @@ impl Subscriber {
         }
     }
 
+    /// The position of the first entry.
+    pub fn from(&self) -> Position
+        ensures { result.0 ≡ self.now.from }
+    {
+        self.from
+    }
+
     /// The position of the entry that is taken next.
     pub fn next(&self) -> Position
         ensures { result.0 ≡ next_of self.now }
@@ -57,6 +64,13 @@ impl Subscriber {
         ensures { result.now ≡ self.now.delivered }
     {
         &self.delivered
+    }
+
+    /// The entries that were taken, in order, are handed over.
+    pub fn into_delivered(self) -> Vec<Entry>
+        ensures { result.items ≡ self.delivered }
+    {
+        self.delivered
     }
 
     /// Offers the entry of a position. It is taken where that is the next position. Where memory runs

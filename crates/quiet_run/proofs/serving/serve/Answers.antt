@@ -25,6 +25,9 @@ use Rattle.quiet_run.proofs.Ending.{at_first_so_far, causes_from_first, most_is_
 use Rattle.quiet_run.proofs.Failures.{all_same, no_causes}
 use Rattle.quiet_run.proofs.Going.{if_err_with, stopped_before, stopped_with_before}
 use Rattle.quiet_run.proofs.Spelling.{all_replies_spelled, history_is_spelled}
+use Rattle.quiet_run.proofs.StreamSpelling.{all_placed_spelled}
+use Rattle.command_frame.specs.Streams.{unplaced}
+use Rattle.std.proofs.lemmas.List.{length-map}
 use Rattle.quiet_run.proofs.Starts.{begin_with_starts, starts_are_clean}
 use Rattle.quiet_run.proofs.serving.serve.Goals as goal
 
@@ -104,7 +107,8 @@ returns-clause-replies g c =
     let events = c.run_to_end.new.running.events.items in
     let over = subst (λ (j : Job). IsOver j c.run_to_end.new.running.events.items c.run_to_end.new.running.bytes c.run_to_end.new.running.schedule.replies new) is c.in_ok-run_to_end.ensures.over in
     let events_are : c.finish.result.history.events ≡ c.run_to_end.new.running.events.items = ap (λ (h : History). h.events) c.finish.ensures.history ∙ c.of-2.ensures in
-    let replies_are : c.finish.result.replies ≡ replies_of (shape c.args.config) c.args.run c.args.items.now events = c.finish.ensures.replies ∙ c.into_replies-replies.ensures ∙ over.replies_are in
+    let replies_are : map unplaced c.finish.result.replies ≡ replies_of (shape c.args.config) c.args.run c.args.items.now events =
+    ap (map unplaced) c.finish.ensures.replies ∙ c.into_replies-replies.ensures ∙ over.replies_are in
     replies_are ∙ ap (λ (es : List Event). replies_of (shape c.args.config) c.args.run c.args.items.now es) (sym events_are)
 
 pub returns-clause-each : goal.returns-clause-each
@@ -115,8 +119,9 @@ returns-clause-each g c =
     let is : job_of c.run_to_end.new.running ≡ a_job = c.in_ok-run_to_end.ensures.same ∙ begins.job_is in
     let events = c.run_to_end.new.running.events.items in
     let over = subst (λ (j : Job). IsOver j c.run_to_end.new.running.events.items c.run_to_end.new.running.bytes c.run_to_end.new.running.schedule.replies new) is c.in_ok-run_to_end.ensures.over in
-    let replies_are : c.finish.result.replies ≡ replies_of (shape c.args.config) c.args.run c.args.items.now events = c.finish.ensures.replies ∙ c.into_replies-replies.ensures ∙ over.replies_are in
-    ap (λ (l : List Reply). length l) replies_are ∙ replies_all (shape c.args.config) c.args.run c.args.items.now events over.over
+    let replies_are : map unplaced c.finish.result.replies ≡ replies_of (shape c.args.config) c.args.run c.args.items.now events =
+    ap (map unplaced) c.finish.ensures.replies ∙ c.into_replies-replies.ensures ∙ over.replies_are in
+    sym (length-map unplaced c.finish.result.replies) ∙ ap (λ (l : List Reply). length l) replies_are ∙ replies_all (shape c.args.config) c.args.run c.args.items.now events over.over
 
 pub returns-clause-nodes : goal.returns-clause-nodes
 returns-clause-nodes g c =
@@ -210,8 +215,10 @@ returns-clause-replies_spelled g c =
     let new = map (cluster_node {P = g.row.P.Denot} g.J.Journal.state) c.run_to_end.new.nodes in
     let is : job_of c.run_to_end.new.running ≡ a_job = c.in_ok-run_to_end.ensures.same ∙ begins.job_is in
     let over = subst (λ (j : Job). IsOver j c.run_to_end.new.running.events.items c.run_to_end.new.running.bytes c.run_to_end.new.running.schedule.replies new) is c.in_ok-run_to_end.ensures.over in
-    subst (λ (rs : List Reply). AllByRecursion HasSpelling rs) (sym (c.finish.ensures.replies ∙ c.into_replies-replies.ensures ∙ over.replies_are))
-    (all_replies_spelled (shape c.args.config) c.args.run c.args.items.now c.run_to_end.new.running.events.items over.way.so_far.spelled)
+    all_placed_spelled c.finish.result.replies
+    (subst (λ (rs : List Reply). AllByRecursion HasSpelling rs) (sym (ap (map unplaced) c.finish.ensures.replies ∙ c.into_replies-replies.ensures ∙ over.replies_are))
+    (all_replies_spelled (shape c.args.config) c.args.run a_job.kept c.args.items.now c.run_to_end.new.running.events.items over.way.so_far.legal c.requires.items
+    over.way.so_far.spelled))
 
 pub returns-clause-starts : goal.returns-clause-starts
 returns-clause-starts g c =

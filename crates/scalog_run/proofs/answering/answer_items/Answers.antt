@@ -1,9 +1,18 @@
-use Rattle.std.proofs.Common.{ap, ◌∙◌}
+use Rattle.std.proofs.Common.{List, length, ap, sym, ◌∙◌}
+use Rattle.std.proofs.lemmas.List.{length-map}
+use Rattle.command_frame.specs.Streams.{unplaced}
+use Rattle.reply_frame.specs.declared.replies.Reply.{Reply}
 use Rattle.log_base.specs.Shape.{shape}
 use Rattle.scalog_run.specs.declared.report.Report.{Report}
 use Rattle.scalog_run.specs.Report.{report_bytes, report_for}
 use Rattle.scalog_run.proofs.Reports.{report_is}
 use Rattle.scalog_run.proofs.answering.answer_items.Goals as goal
+
+-- each item has a reply
+pub bytes-requires-clause-each : goal.bytes-requires-clause-each
+bytes-requires-clause-each g c =
+    let replies = c.in_ok-driven.driven.replies in
+    sym (length-map unplaced replies) ∙ ap (λ (l : List Reply). length l) c.in_ok-driven.ensures.replies ∙ c.in_ok-driven.ensures.whole.each
 
 -- the output is the report of the history
 pub returns-clause-output : goal.returns-clause-output

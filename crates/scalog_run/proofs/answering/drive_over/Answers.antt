@@ -1,4 +1,6 @@
 use Rattle.std.proofs.Common.{◌≡◌, ℕ, List, length, sym, ap, ◌∙◌, subst, arith}
+use Rattle.std.proofs.lemmas.List.{length-map}
+use Rattle.command_frame.specs.Streams.{unplaced}
 use Rattle.reply_frame.specs.declared.replies.Reply.{Reply}
 use Rattle.log_base.specs.declared.cluster_shape.Config.{Config}
 use Rattle.log_base.specs.Shape.{shape}
@@ -135,7 +137,7 @@ returns-clause-whole g c =
       kept_is = driven.given.2;
       lawful = driven.lawful;
       driven = driven.driven;
-      each = ap (λ (replies : List Reply). length replies) (sym driven.replies) ∙ driven.each;
+      each = ap (λ (replies : List Reply). length replies) (sym driven.replies) ∙ length-map unplaced c.in_ok-driven.field-0.replies ∙ driven.each;
       within = driven.limits;
       spelled = driven.spelled;
       starts = driven.starts;

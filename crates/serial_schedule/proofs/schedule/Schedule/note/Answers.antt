@@ -1,9 +1,10 @@
-use Rattle.std.proofs.Common.{◌++◌, List, ap, subst, sym, ◌∙◌}
+use Rattle.std.proofs.Common.{◌++◌, List, map, ap, subst, sym, ◌∙◌}
 use Rattle.std.specs.List.{AllByRecursion}
 use Rattle.history_frame.specs.declared.events.Sent.{Sent}
 use Rattle.log_base.specs.Shape.{shape}
 use Rattle.serial_schedule.specs.Keeping.{IsDuty}
 use Rattle.serial_schedule.specs.Scheduling.{Waiting, letters_from}
+use Rattle.command_frame.specs.Streams.{unplaced}
 use Rattle.serial_schedule.proofs.Kept.{followed-is, noted-made}
 use Rattle.serial_schedule.proofs.schedule.Schedule.note.Goals as goal
 
@@ -21,10 +22,12 @@ invariant_of-self-2 c = record {
 pub returns-clause-ok : goal.returns-clause-ok
 returns-clause-ok c =
     let before : List Waiting → List Waiting = λ (queue : List Waiting). queue ++ letters_from c.self.inside.place 0 c.args.happened.now.outputs in
-    noted-made _ c.args.self.now c.args.happened.now.outputs c.args.happened.now.reply c.post.new.queue.items c.follow.new.duties.items c.follow.new.replies.items
+    noted-made _ c.args.self.now c.args.happened.now.outputs c.args.happened.now.reply c.post.new.queue.items c.follow.new.duties.items c.follow.new.subscriber
+    (map unplaced c.follow.new.replies.items)
     c.self.view_is
     (c.post.ensures.queue
     ∙ ap (λ (outputs : List Sent). c.reserve.new.self.items ++ letters_from c.self.inside.place 0 outputs) c.get-outputs.ensures
     ∙ ap before c.in_ok-reserve.ensures.items)
     c.in_ok-follow.ensures.duties
+    c.in_ok-follow.ensures.stream
     c.in_ok-follow.ensures.replies
