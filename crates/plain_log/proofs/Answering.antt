@@ -136,7 +136,7 @@ stored_position shape state s j entry in_range within live is =
     )
 
 -- Of what the cut with it covers, the entry's place is the only one.
-only_newest : (shape : Shape) (state : LogState) (s j : ℕ) (entry : Entry) → s < shape.shards → j < shape.replicas
+pub only_newest : (shape : Shape) (state : LogState) (s j : ℕ) (entry : Entry) → s < shape.shards → j < shape.replicas
     → standing_of shape.replicas state s ≡ Some Live → IsCoherentState shape state → (place : Place) (at : ℕ)
     → length (spell shape.replicas state.values) ≤ at
     → slice_get (spell shape.replicas (stored shape.replicas state s j entry).values) at ≡ Some place

@@ -21,7 +21,7 @@ use Rattle.log_model.proofs.Growth.{freeze-shard, freeze-covered, length-raised}
 use Rattle.log_model.proofs.Spelled.{covered_of-add, covered_of-finalise}
 use Rattle.log_model.proofs.States.{state_in-map}
 use Rattle.command_frame.specs.declared.items.Item.{Item}
-use Rattle.command_frame.specs.declared.items.Item.TheVariants.{Append, Read, Trim, Add, Finalise, Ask}
+use Rattle.command_frame.specs.declared.items.Item.TheVariants.{Append, Read, Subscribe, Trim, Add, Finalise, Ask}
 use Rattle.command_frame.specs.Items.{IsItem}
 use Rattle.plain_log.specs.Coherent.{IsOfShape, IsCoherent, IsCoherentState}
 use Rattle.plain_log.specs.Log.{LogState, start, after, after_entry, state_after, knows, found_standing, standing_of, drawn, stored, with_value, next_entry, cut_of}
@@ -174,6 +174,7 @@ pub coherent_after : (shape : Shape) (run : ℕ) (state : LogState) (item : Item
 coherent_after shape run state (Append lane shard replica bytes) item is =
     coherent_entry shape (drawn state lane shard.0 replica.0) shard.0 replica.0 (next_entry run state lane bytes) (standing_of shape.replicas state shard.0) refl item.2 is
 coherent_after shape run state (Read lane shard replica position) item is = is
+coherent_after shape run state (Subscribe lane shard replica from count) item is = is
 coherent_after shape run state (Trim lane position) item is =
     coherent_value shape state (TrimValue position) (coherent_trimmed shape (chain_of shape.replicas state.values) state.segments position is)
 coherent_after shape run state (Add lane shard) item is =

@@ -18,7 +18,7 @@ use Rattle.log_model.proofs.Frozen.{frozen-apply_all, frozen-finalise}
 use Rattle.log_model.proofs.Growth.{mark-apply_all}
 use Rattle.log_model.proofs.States.{state_of_added}
 use Rattle.command_frame.specs.declared.items.Item.{Item}
-use Rattle.command_frame.specs.declared.items.Item.TheVariants.{Append, Read, Trim, Add, Finalise, Ask}
+use Rattle.command_frame.specs.declared.items.Item.TheVariants.{Append, Read, Subscribe, Trim, Add, Finalise, Ask}
 use Rattle.reply_frame.specs.declared.replies.Reply.{Settled, NoSuchShard, Trimmed}
 use Rattle.plain_log.specs.Log.{LogState, start, after, after_entry, state_after, knows, found_standing, standing_of, drawn, with_value, next_entry, read_in, reply_to, told_slot}
 use Rattle.plain_log.specs.Wishes.{wished, NoTrim, NoFinalise}
@@ -44,6 +44,7 @@ item_joins : (P : Value → Type 0) → ((lengths : Lengths) → P (Cut lengths)
 item_joins P cuts shape run state (Append lane shard replica bytes) wish =
     entry_joins P cuts shape.replicas (drawn state lane shard.0 replica.0) shard.0 replica.0 (next_entry run state lane bytes) (standing_of shape.replicas state shard.0)
 item_joins P cuts shape run state (Read lane shard replica position) wish = inl refl
+item_joins P cuts shape run state (Subscribe lane shard replica from count) wish = inl refl
 item_joins P cuts shape run state (Trim lane position) wish = inr (TrimValue position, wish (TrimValue position) refl, refl)
 item_joins P cuts shape run state (Add lane shard) wish = inr (AddValue shard, wish (AddValue shard) refl, refl)
 item_joins P cuts shape run state (Finalise lane shard) wish =
@@ -191,6 +192,7 @@ pub wish_told : (shape : Shape) (run : ℕ) (state : LogState) (item : Item) (va
     → reply_to shape run state item ≢ NoSuchShard → reply_to shape run state item ≡ told_slot state
 wish_told shape run state (Append lane shard replica bytes) value wish there = absurd (cc)
 wish_told shape run state (Read lane shard replica position) value wish there = absurd (cc)
+wish_told shape run state (Subscribe lane shard replica from count) value wish there = absurd (cc)
 wish_told shape run state (Trim lane position) value wish there = refl
 wish_told shape run state (Add lane shard) value wish there = refl
 wish_told shape run state (Finalise lane shard) value wish there =
@@ -206,6 +208,7 @@ pub wish_settled : (shape : Shape) (run : ℕ) (state : LogState) (item : Item) 
     → wished item ≡ Some value → reply_to shape run state item ≡ Settled slot → IsSettled shape run state item value slot more
 wish_settled shape run state (Append lane shard replica bytes) value slot more wish told = absurd (cc)
 wish_settled shape run state (Read lane shard replica position) value slot more wish told = absurd (cc)
+wish_settled shape run state (Subscribe lane shard replica from count) value slot more wish told = absurd (cc)
 wish_settled shape run state (Trim lane position) value slot more wish told =
     let same : TrimValue position ≡ value = cc in
     settled_value shape run state (with_value state (TrimValue position)) value slot more (ap (with_value state) same) told

@@ -12,7 +12,7 @@ use Rattle.log_model.specs.Chain.{Standing, Live, Frozen}
 use Rattle.log_model.specs.Lookup.{segment_index}
 use Rattle.log_model.specs.Pairs.{last_of, offset_of}
 use Rattle.command_frame.specs.declared.items.Item.{Item}
-use Rattle.command_frame.specs.declared.items.Item.TheVariants.{Append, Read, Trim, Add, Finalise, Ask}
+use Rattle.command_frame.specs.declared.items.Item.TheVariants.{Append, Read, Subscribe, Trim, Add, Finalise, Ask}
 use Rattle.command_frame.specs.Items.{IsItem}
 use Rattle.plain_log.specs.Lanes.{IsNoAppendOf, NoAppendOf}
 use Rattle.plain_log.specs.Log.{LogState, Primary, start, after, after_entry, state_after, drawn, knows, next_entry, primary_of, standing_of, stored, with_value}
@@ -94,6 +94,7 @@ stays_after lane shape run state (Append own shard replica bytes) other =
     stays_then lane state next (after shape run state (Append own shard replica bytes)) (stays_drawn lane own shard.0 replica.0 state other)
     (stays_entry lane shape.replicas shard.0 replica.0 entry next (standing_of shape.replicas state shard.0) other)
 stays_after lane shape run state (Read own shard replica position) other = stays_same lane state
+stays_after lane shape run state (Subscribe own shard replica from count) other = stays_same lane state
 stays_after lane shape run state (Trim own position) other = stays_value lane state (after shape run state (Trim own position)) refl refl refl
 stays_after lane shape run state (Add own shard) other = stays_value lane state (after shape run state (Add own shard)) refl refl refl
 stays_after lane shape run state (Finalise own shard) other =
@@ -190,6 +191,7 @@ drawn_after shape run state (Append lane shard replica bytes) item is =
     drawn_entry run shape.replicas shard.0 replica.0 (next_entry run state lane bytes) next (standing_of shape.replicas state shard.0)
     (omega (arith, drawn_next run state lane shard.0 replica.0 item.0 is)) (drawn_drawn run state lane shard.0 replica.0 is)
 drawn_after shape run state (Read lane shard replica position) item is = is
+drawn_after shape run state (Subscribe lane shard replica from count) item is = is
 drawn_after shape run state (Trim lane position) item is = drawn_value run state (after shape run state (Trim lane position)) refl refl refl is
 drawn_after shape run state (Add lane shard) item is = drawn_value run state (after shape run state (Add lane shard)) refl refl refl is
 drawn_after shape run state (Finalise lane shard) item is =

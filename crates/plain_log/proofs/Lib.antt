@@ -10,3 +10,4 @@ pub mod Room
 pub mod Sequence
 pub mod Sizes
 pub mod Standings
+pub mod Taking

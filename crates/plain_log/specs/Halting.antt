@@ -1,14 +1,16 @@
 -- The log of one thread on a disk that may fail. An append whose put fails is told so, and from then on the replica is
--- down: appends, reads and questions about a last append are refused. Additions, finalisations and trims go on, since no
+-- down: appends, reads, subscriptions and questions about a last append are refused. Additions, finalisations and trims go on, since no
 -- disk of the replica keeps them.
 use Rattle.std.specs.Prelude.{◌≡◌, ℕ, List, [], ◌∷◌, ◌++◌, length, take, drop, Bool, false, ◌==◌, ◌&&◌, if◌then◌else◌, Option, Some, None, option_and_then, slice_get, IfSome}
 use Rattle.log_base.specs.ClusterShape.{Shape}
+use Rattle.log_base.specs.declared.numbers.Position.{Position}
 use Rattle.record_frame.specs.declared.entries.Entry.{Entry}
 use Rattle.log_model.specs.Chain.{Live}
 use Rattle.command_frame.specs.declared.items.Item.{Item}
-use Rattle.command_frame.specs.declared.items.Item.TheVariants.{Append, Read, Ask}
+use Rattle.command_frame.specs.declared.items.Item.TheVariants.{Append, Read, Subscribe, Ask}
 use Rattle.reply_frame.specs.declared.replies.Reply.{Reply, Halted, Down, NothingKept}
 use Rattle.plain_log.specs.Log.{LogState, Primary, start, standing_of, drawn, primary_of, next_entry, after, reply_to, state_after, log_of}
+use Rattle.plain_log.specs.Streams.{subscribed}
 
 -- the entry of an item is put on the disk: it is an append to a shard that was added and is not finalised
 abbrev pub IsPut : Shape → LogState → Item → Type 0
@@ -34,6 +36,7 @@ asked_down (Some primary) = Down
 abbrev pub reply_down : Shape → ℕ → LogState → Item → Reply
 reply_down shape run state (Append lane shard replica bytes) = Down
 reply_down shape run state (Read lane shard replica position) = Down
+reply_down shape run state (Subscribe lane shard replica from count) = subscribed (λ (position : Position). Down) from count
 reply_down shape run state (Ask lane) = asked_down (primary_of state lane)
 reply_down shape run state item = reply_to shape run state item
 

@@ -4,4 +4,6 @@ pub mod Lanes
 pub mod Log
 pub mod Room
 pub mod Smallest
+pub mod Streams
+pub mod Taking
 pub mod Wishes

@@ -16,8 +16,9 @@ use Rattle.log_model.specs.Places.{place_at}
 use Rattle.log_model.specs.Lookup.{segment_index, entry_at_position, position_of_place}
 use Rattle.log_model.specs.Storage.{Member, knowledge_of}
 use Rattle.command_frame.specs.declared.items.Item.{Item}
-use Rattle.command_frame.specs.declared.items.Item.TheVariants.{Append, Read, Trim, Add, Finalise, Ask}
+use Rattle.command_frame.specs.declared.items.Item.TheVariants.{Append, Read, Subscribe, Trim, Add, Finalise, Ask}
 use Rattle.reply_frame.specs.declared.replies.Reply.{Reply, Nothing, At, Found, PendingAsk, PendingRead, Finalised, FinalisedAt, NotAdded, Stale, Missing, Trimmed, NoSuchShard, Settled, NothingKept}
+use Rattle.plain_log.specs.Streams.{subscribed}
 
 -- the replica of a shard that appends go to
 pub record Primary : Type 0 where
@@ -104,6 +105,7 @@ abbrev pub after : Shape → ℕ → LogState → Item → LogState
 after shape run state (Append lane shard replica bytes) =
     after_entry shape.replicas (drawn state lane shard.0 replica.0) shard.0 replica.0 (next_entry run state lane bytes) (standing_of shape.replicas state shard.0)
 after shape run state (Read lane shard replica position) = state
+after shape run state (Subscribe lane shard replica from count) = state
 after shape run state (Trim lane position) = with_value state (TrimValue position)
 after shape run state (Add lane shard) = with_value state (AddValue shard)
 after shape run state (Finalise lane shard) = if knows shape.replicas state shard.0 then with_value state (FinaliseValue shard) else state
@@ -170,6 +172,7 @@ reply_to shape run state (Append lane shard replica bytes) =
     told_append shape.replicas (after shape run state (Append lane shard replica bytes)).values
     (place_at shard.0 replica.0 (length (entries_of shape.replicas state shard.0 replica.0))) (standing_of shape.replicas state shard.0)
 reply_to shape run state (Read lane shard replica position) = read_in shape.replicas state position
+reply_to shape run state (Subscribe lane shard replica from count) = subscribed (read_in shape.replicas state) from count
 reply_to shape run state (Trim lane position) = told_slot state
 reply_to shape run state (Add lane shard) = told_slot state
 reply_to shape run state (Finalise lane shard) = if knows shape.replicas state shard.0 then told_slot state else NoSuchShard

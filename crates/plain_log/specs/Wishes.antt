@@ -6,12 +6,13 @@ use Rattle.log_base.specs.declared.numbers.Shard.{Shard}
 use Rattle.record_frame.specs.declared.values.Value.{Value}
 use Rattle.record_frame.specs.declared.values.Value.TheVariants.{Add as AddValue, Finalise as FinaliseValue, Trim as TrimValue}
 use Rattle.command_frame.specs.declared.items.Item.{Item}
-use Rattle.command_frame.specs.declared.items.Item.TheVariants.{Append, Read, Trim, Add, Finalise, Ask}
+use Rattle.command_frame.specs.declared.items.Item.TheVariants.{Append, Read, Subscribe, Trim, Add, Finalise, Ask}
 
 -- the value that an item asks for
 abbrev pub wished : Item → Option Value
 wished (Append lane shard replica bytes) = None
 wished (Read lane shard replica position) = None
+wished (Subscribe lane shard replica from count) = None
 wished (Trim lane position) = Some (TrimValue position)
 wished (Add lane shard) = Some (AddValue shard)
 wished (Finalise lane shard) = Some (FinaliseValue shard)

@@ -12,14 +12,17 @@ ghost use Rattle.record_frame.specs.declared.entries.Entry.{Entry};
 ghost use Rattle.record_frame.specs.declared.values.Value.{Value};
 ghost use Rattle.log_model.specs.Chain.{Live, Frozen, chain_of};
 ghost use Rattle.command_frame.specs.declared.items.Item.{Item};
-ghost use Rattle.command_frame.specs.declared.items.Item.TheVariants.{Append, Read, Trim, Add, Finalise, Ask};
-ghost use Rattle.reply_frame.specs.declared.replies.Reply.{Settled, At, Found, Finalised, Halted, Down, NoSuchShard, NotAdded, PendingRead, Trimmed, Stale, Missing, NothingKept};
+ghost use Rattle.command_frame.specs.declared.items.Item.TheVariants.{Append, Read, Subscribe, Trim, Add, Finalise, Ask};
+ghost use Rattle.reply_frame.specs.declared.replies.Reply.{Nothing, Settled, At, Found, Stream', Finalised, Halted, Down, NoSuchShard, NotAdded, PendingRead, Trimmed, Stale, Missing, NothingKept};
 ghost use Rattle.command_frame.specs.Items.{IsItem};
+ghost use Rattle.command_frame.specs.Streams.{nowhere, room_of_stream};
 ghost use Rattle.plain_log.specs.Coherent.{IsCoherentState};
 ghost use Rattle.plain_log.specs.Lanes.{NoAppendOf};
-ghost use Rattle.plain_log.specs.Log.{LogState, log_of, start, state_after, replies_from, reply_to, knows, standing_of, drawn, after, next_entry};
+ghost use Rattle.plain_log.specs.Log.{LogState, log_of, start, state_after, replies_from, reply_to, knows, standing_of, drawn, after, next_entry, read_in};
 ghost use Rattle.plain_log.specs.Halting.{log_with_halt, IsHaltOf};
 ghost use Rattle.plain_log.specs.Smallest.{smallest, two_shards};
+ghost use Rattle.plain_log.specs.Streams.{collected, stream_from};
+ghost use Rattle.plain_log.specs.Taking.{IsTaken};
 ghost use Rattle.plain_log.specs.Wishes.{wished, NoTrim, NoFinalise, NoTrimPast};
 
 /// An addition, an append and a read, answered.
@@ -44,6 +47,19 @@ pub fn trimmed_answers()
         (Add 0 (record { 0 = 0 }) ∷ Append 0 (record { 0 = 0 }) (record { 0 = 0 }) (112 ∷ []) ∷ Trim 0 (record { 0 = 1 })
         ∷ Read 0 (record { 0 = 0 }) (record { 0 = 0 }) (record { 0 = 0 }) ∷ Finalise 0 (record { 0 = 1 }) ∷ [])
         ≡ Settled (record { 0 = 0 }) ∷ At (record { 0 = 0 }) ∷ Settled (record { 0 = 2 }) ∷ Trimmed (record { 0 = 1 }) ∷ NoSuchShard ∷ [] }
+{}
+
+/// A subscription takes the entries from a position on, and ends where one is not there yet; one from a position
+/// that is given up takes none.
+pub fn subscribed_answers()
+    ensures { log_of smallest 1
+        (Add 0 (record { 0 = 0 }) ∷ Append 0 (record { 0 = 0 }) (record { 0 = 0 }) (112 ∷ []) ∷ Append 0 (record { 0 = 0 }) (record { 0 = 0 }) (113 ∷ [])
+        ∷ Append 0 (record { 0 = 0 }) (record { 0 = 0 }) (114 ∷ []) ∷ Trim 0 (record { 0 = 2 }) ∷ Subscribe 0 (record { 0 = 0 }) (record { 0 = 0 }) (record { 0 = 2 }) 10
+        ∷ Subscribe 0 (record { 0 = 0 }) (record { 0 = 0 }) (record { 0 = 1 }) 10 ∷ Subscribe 0 (record { 0 = 0 }) (record { 0 = 0 }) (record { 0 = 2 }) 1 ∷ [])
+        ≡ Settled (record { 0 = 0 }) ∷ At (record { 0 = 0 }) ∷ At (record { 0 = 1 }) ∷ At (record { 0 = 2 }) ∷ Settled (record { 0 = 4 })
+        ∷ Stream' (record { 0 = 2 }) ((record { client = record { 0 = 0 }; number = record { 0 = 4294967298 }; bytes = 114 ∷ [] }) ∷ []) nowhere (PendingRead (record { 0 = 3 }))
+        ∷ Stream' (record { 0 = 1 }) [] nowhere (Trimmed (record { 0 = 2 }))
+        ∷ Stream' (record { 0 = 2 }) ((record { client = record { 0 = 0 }; number = record { 0 = 4294967298 }; bytes = 114 ∷ [] }) ∷ []) nowhere Nothing ∷ [] }
 {}
 
 /// A lane's last append is found where it stands, also where its shard is finalised since.
@@ -86,8 +102,8 @@ pub fn answers_go_on()
 {}
 
 /// Where no put fails, the replies are those of the log of one thread. Where one fails, so are the replies
-/// before it, its own is a halt, and from then on appends, reads and questions about a last append find the replica
-/// down, and additions, finalisations and trims are settled as before.
+/// before it, its own is a halt, and from then on appends, reads, subscriptions and questions about a last append
+/// find the replica down, and additions, finalisations and trims are settled as before.
 pub fn halt_goes_on()
     ensures none { (shape : Shape) (run : ℕ) (items : List Item) → log_with_halt shape run items None ≡ log_of shape run items }
     ensures each { (shape : Shape) (run : ℕ) (items : List Item) (halt : Option ℕ) → IsHaltOf shape run items halt
@@ -102,6 +118,9 @@ pub fn halt_goes_on()
     ensures asked { log_with_halt smallest 1
         (Add 0 (record { 0 = 0 }) ∷ Append 0 (record { 0 = 0 }) (record { 0 = 0 }) (97 ∷ []) ∷ Ask 0 ∷ Ask 1 ∷ []) (Some 1)
         ≡ Settled (record { 0 = 0 }) ∷ Halted ∷ Down ∷ NothingKept ∷ [] }
+    ensures followed { log_with_halt smallest 1
+        (Add 0 (record { 0 = 0 }) ∷ Append 0 (record { 0 = 0 }) (record { 0 = 0 }) (97 ∷ []) ∷ Subscribe 0 (record { 0 = 0 }) (record { 0 = 0 }) (record { 0 = 5 }) 2 ∷ []) (Some 1)
+        ≡ Settled (record { 0 = 0 }) ∷ Halted ∷ Stream' (record { 0 = 5 }) [] nowhere Down ∷ [] }
 {}
 
 /// In each state that items lead to, the covered length of each segment is the number of its entries.
@@ -130,6 +149,19 @@ pub fn read_finds_entry()
         → let end = (chain_of shape.replicas state.values).end in
         end ≤ position.0
         → reply_to shape run state (Read lane shard replica position) ≡ PendingRead (record { 0 = end }) }
+{}
+
+/// In each state that items lead to, a subscription takes the entries that reads of its positions find, from the
+/// first one on, with none left out. It ends once it has as many as are wanted, before an entry that its stream has
+/// no room for, or with the answer to the first position that has no entry.
+pub fn subscription_is_told()
+    ensures told { (shape : Shape) (run : ℕ) (state : LogState) (lane : ℕ) (shard : Shard) (replica : Replica) (from : Position) (count : ℕ)
+        → reply_to shape run state (Subscribe lane shard replica from count)
+        ≡ stream_from from (collected (read_in shape.replicas state) room_of_stream from.0 count) }
+    ensures taken { (shape : Shape) (run : ℕ) (items : List Item) (from count : ℕ)
+        → AllByRecursion (IsItem shape) items
+        → let state = state_after shape run (start shape) items in
+        IsTaken shape.replicas state room_of_stream from count (collected (read_in shape.replicas state) room_of_stream from count) }
 {}
 
 /// In each state that items lead to, an append to a live shard is told the position where the log ended,

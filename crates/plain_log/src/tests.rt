@@ -9,6 +9,7 @@ fn laws_hold(_rt: HostRuntime) -> Result<(), Fail> {
     asked_answers();
     missing_answers();
     stale_answers();
+    subscribed_answers();
     one_reply_each();
     answers_go_on();
     halt_goes_on();
@@ -16,6 +17,7 @@ fn laws_hold(_rt: HostRuntime) -> Result<(), Fail> {
     read_finds_entry();
     append_is_told();
     ask_is_told();
+    subscription_is_told();
     live_until_finalised();
     wishes_are_settled();
     trim_gives_up();
