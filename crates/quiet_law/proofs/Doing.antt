@@ -1,5 +1,5 @@
 -- Duties of a run that is played: signals are taken in turn, letters are delivered, and a call is answered.
-use Rattle.std.proofs.Common.{◌≡◌, ◌+◌, ◌-◌, ◌≤◌, ℕ, zero, suc, List, [], ◌∷◌, ◌++◌, length, Some, None, refl, sym, ap, subst, arith, ◌∙◌}
+use Rattle.std.proofs.Common.{◌≡◌, ◌+◌, ◌-◌, ◌≤◌, ℕ, zero, suc, List, [], ◌∷◌, ◌++◌, length, Option, Some, None, refl, sym, ap, subst, arith, ◌∙◌}
 use Rattle.std.proofs.lemmas.Bool.{ne_eqb}
 use Rattle.log_base.specs.ClusterShape.{Shape}
 use Rattle.log_base.specs.declared.numbers.NodeId.{NodeId}
@@ -23,8 +23,8 @@ use Rattle.quiet_law.specs.Quiet.{quiet_mark}
 use Rattle.quiet_law.proofs.Playing.{Plays, finally, is_ready, letters_in, moment_of, passes, same_end, same_plays, stepped, takes_as}
 
 -- a schedule at which no answer is awaited
-abbrev pub spot : Shape → ℕ → List Item → List ℕ → List Reply → List Duty → List Waiting → ℕ → Scheduled
-spot config run items draws replies duties queue place = record {
+abbrev pub spot : Shape → ℕ → List Item → List ℕ → List (Option NodeId) → List Reply → List Duty → List Waiting → ℕ → Scheduled
+spot config run items draws primaries replies duties queue place = record {
   config = config;
   run = run;
   items = items;
@@ -33,6 +33,7 @@ spot config run items draws replies duties queue place = record {
   awaited = None;
   place = place;
   draws = draws;
+  primaries = primaries;
   replies = replies;
 }
 
@@ -45,9 +46,9 @@ EndsInCall (Give Restart first count ∷ duties) = ⊥
 EndsInCall (DeliverAll ∷ duties) = EndsInCall duties
 EndsInCall (MakeCall node call awaited ∷ duties) = duties ≡ []
 
-module _ (config : Shape) (run : ℕ) (whole : List Event) (items : List Item) (draws : List ℕ) (replies : List Reply) where
+module _ (config : Shape) (run : ℕ) (whole : List Event) (items : List Item) (draws : List ℕ) (primaries : List (Option NodeId)) (replies : List Reply) where
   abbrev here : List Duty → List Waiting → ℕ → Scheduled
-  here duties queue place = spot config run items draws replies duties queue place
+  here duties queue place = spot config run items draws primaries replies duties queue place
 
   -- what is left once something was reached: the duties that are due, and the events
   pub record Left (duties : List Duty) (Reached : Moment → Type 0) (most : ℕ) (ends : List Reply) : Type 0 where

@@ -1,12 +1,14 @@
 -- The course of an item in a run that is played goes on, call by call, to its reply.
-use Rattle.std.proofs.Common.{◌≡◌, ◌+◌, ◌≤◌, ℕ, zero, suc, List, [], ◌∷◌, ◌++◌, length, refl, sym, ap, subst, append-nil, arith, ◌∙◌}
-use Rattle.std.specs.Prelude.{nat_lt}
+use Rattle.std.proofs.Common.{◌≡◌, ◌+◌, ◌≤◌, ℕ, zero, suc, List, [], ◌∷◌, ◌++◌, length, Option, Some, None, refl, sym, ap, subst, append-nil, arith, ◌∙◌}
+use Rattle.std.specs.Prelude.{nat_lt, slice_index_or}
 use Rattle.std.proofs.lemmas.Bool.{cond_both}
 use Rattle.log_base.specs.ClusterShape.{Shape}
 use Rattle.log_base.specs.declared.numbers.Client.{Client}
+use Rattle.log_base.specs.declared.numbers.NodeId.{NodeId}
+use Rattle.log_base.specs.declared.numbers.Number.{Number}
 use Rattle.record_frame.specs.declared.values.Value.{Value}
 use Rattle.command_frame.specs.declared.items.Item.{Item}
-use Rattle.command_frame.specs.declared.items.Item.TheVariants.{Append, Read, Trim, Add, Finalise}
+use Rattle.command_frame.specs.declared.items.Item.TheVariants.{Append, Read, Trim, Add, Finalise, Ask}
 use Rattle.reply_frame.specs.declared.replies.Reply.{Reply, Stored, Down, Elsewhere, Taken, NotLeading, NoLeader}
 use Rattle.history_frame.specs.declared.events.Event.{Event}
 use Rattle.serial_schedule.specs.declared.courses.Course.{Course}
@@ -15,7 +17,7 @@ use Rattle.serial_schedule.specs.declared.duties.Awaited.{Awaited}
 use Rattle.serial_schedule.specs.declared.duties.Awaited.TheVariants.{Storing, Requesting, Reading, Last}
 use Rattle.serial_schedule.specs.declared.duties.Duty.{Duty}
 use Rattle.serial_schedule.specs.declared.duties.Duty.TheVariants.{Give, DeliverAll, MakeCall}
-use Rattle.serial_schedule.specs.Courses.{beginning, course_of, reading_at, request, requested}
+use Rattle.serial_schedule.specs.Courses.{asked, beginning, client_of, course_of, last_number, reading_at, request, requested}
 use Rattle.serial_schedule.specs.Scheduling.{Scheduled, Waiting, taken}
 use Rattle.quiet_model.specs.Moments.{Moment}
 use Rattle.quiet_law.specs.Going.{DoneThen, Goes}
@@ -43,12 +45,17 @@ module _ (config : Shape) where
       cond_both (nat_lt shard.0 config.shards) (GoesOn (reading_at config shard.0 replica client position Last ∷ [])) (Replies (Elsewhere shard)) IsCalling (λ _. refl) (λ _. tt)
   course_calls _ _ = tt
 
-  pub beginning_calls : (run : ℕ) (draws : List ℕ) (item : Item) → IsCalling (beginning config run draws item)
-  beginning_calls run draws (Append lane shard replica bytes) = refl
-  beginning_calls run draws (Read lane shard replica position) = refl
-  beginning_calls run draws (Trim lane position) = refl
-  beginning_calls run draws (Add lane shard) = refl
-  beginning_calls run draws (Finalise lane shard) = refl
+  asked_calls : (client : Client) (number : Number) (primary : Option NodeId) → IsCalling (asked client number primary)
+  asked_calls client number None = tt
+  asked_calls client number (Some primary) = refl
+
+  pub beginning_calls : (run : ℕ) (draws : List ℕ) (primaries : List (Option NodeId)) (item : Item) → IsCalling (beginning config run draws primaries item)
+  beginning_calls run draws primaries (Append lane shard replica bytes) = refl
+  beginning_calls run draws primaries (Read lane shard replica position) = refl
+  beginning_calls run draws primaries (Trim lane position) = refl
+  beginning_calls run draws primaries (Add lane shard) = refl
+  beginning_calls run draws primaries (Finalise lane shard) = refl
+  beginning_calls run draws primaries (Ask lane) = asked_calls (client_of lane) (last_number run draws lane) (slice_index_or primaries lane None)
 
   -- what goes on after a call may be said more weakly
   done_map : (duties : List Duty) (K L : Awaited → Reply → Moment → Type 0) → ((awaited : Awaited) (reply : Reply) (next : Moment) → K awaited reply next → L awaited reply next)
@@ -58,7 +65,7 @@ module _ (config : Shape) where
   done_map (DeliverAll ∷ duties) K L goes moment done = (done.0, done.1, done_map duties K L goes done.0 done.2)
   done_map (MakeCall node call awaited ∷ duties) K L goes moment done = (done.0, done.1, done.2, goes awaited done.0 done.1 done.3)
 
-  module _ (run : ℕ) (whole : List Event) (items : List Item) (draws : List ℕ) where
+  module _ (run : ℕ) (whole : List Event) (items : List Item) (draws : List ℕ) (primaries : List (Option NodeId)) where
     -- ---- an item
 
     -- a course that ends with an answer
@@ -70,12 +77,12 @@ module _ (config : Shape) where
       pub before : List Event
       pub events : List Event
       pub goes : Goes config calls course moment answer (moment_of config before queue)
-      pub plays : Plays config run whole before events (spot config run items draws (replies ++ answer ∷ []) [] queue place)
-      pub ending : finally (spot config run items draws (replies ++ answer ∷ []) [] queue place) events ≡ ends
+      pub plays : Plays config run whole before events (spot config run items draws primaries (replies ++ answer ∷ []) [] queue place)
+      pub ending : finally (spot config run items draws primaries (replies ++ answer ∷ []) [] queue place) events ≡ ends
 
     pub course_played : (most : ℕ) (replies : List Reply) (course : Course) → IsCalling course → (queue : List Waiting) (place : ℕ) (before events : List Event) → length events ≤ most
-        → Plays config run whole before events (taken (spot config run items draws replies [] queue place) course)
-        → Answered replies course (moment_of config before queue) (finally (taken (spot config run items draws replies [] queue place) course) events)
+        → Plays config run whole before events (taken (spot config run items draws primaries replies [] queue place) course)
+        → Answered replies course (moment_of config before queue) (finally (taken (spot config run items draws primaries replies [] queue place) course) events)
     course_played most replies (Replies reply) is queue place before events few plays = record {
       calls = 0;
       answer = reply;
@@ -88,14 +95,14 @@ module _ (config : Shape) where
       ending = refl;
     }
     course_played zero replies (GoesOn duties) is queue place before events few plays =
-        let same : spot config run items draws replies (duties ++ []) queue place ≡ spot config run items draws replies duties queue place =
-        ap (λ (left : List Duty). spot config run items draws replies left queue place) (append-nil duties) in
-        let one = calls config run whole items draws replies duties is queue place before events (subst (Plays config run whole before events) same plays) in
+        let same : spot config run items draws primaries replies (duties ++ []) queue place ≡ spot config run items draws primaries replies duties queue place =
+        ap (λ (left : List Duty). spot config run items draws primaries replies left queue place) (append-nil duties) in
+        let one = calls config run whole items draws primaries replies duties is queue place before events (subst (Plays config run whole before events) same plays) in
         absurd (let less = one.few in omega arith)
     course_played (suc most) replies (GoesOn duties) is queue place before events few plays =
-        let same : spot config run items draws replies (duties ++ []) queue place ≡ spot config run items draws replies duties queue place =
-        ap (λ (left : List Duty). spot config run items draws replies left queue place) (append-nil duties) in
-        let one = calls config run whole items draws replies duties is queue place before events (subst (Plays config run whole before events) same plays) in
+        let same : spot config run items draws primaries replies (duties ++ []) queue place ≡ spot config run items draws primaries replies duties queue place =
+        ap (λ (left : List Duty). spot config run items draws primaries replies left queue place) (append-nil duties) in
+        let one = calls config run whole items draws primaries replies duties is queue place before events (subst (Plays config run whole before events) same plays) in
         let less = one.few in
         let next = course_of config one.awaited one.reply in
         let then = course_played most replies next (course_calls one.awaited one.reply) one.queue one.place one.before one.events (omega arith) one.plays in
@@ -107,7 +114,7 @@ module _ (config : Shape) where
           place = then.place;
           before = then.before;
           events = then.events;
-          goes = done_map duties (IsCall config run whole items draws replies one.awaited one.reply (moment_of config one.before one.queue))
+          goes = done_map duties (IsCall config run whole items draws primaries replies one.awaited one.reply (moment_of config one.before one.queue))
               (λ awaited reply moment. Goes config then.calls (course_of config awaited reply) moment then.answer after)
               (λ awaited reply moment e.
               subst (λ (a : Awaited). Goes config then.calls (course_of config a reply) moment then.answer after) (sym e.0)

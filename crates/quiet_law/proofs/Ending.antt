@@ -5,12 +5,13 @@ use Rattle.std.specs.List.{AllByRecursion}
 use Rattle.std.proofs.lemmas.Bool.{cond_both}
 use Rattle.std.proofs.lemmas.List.{take-append-le}
 use Rattle.log_base.specs.ClusterShape.{InRange, Shape}
+use Rattle.log_base.specs.declared.numbers.NodeId.{NodeId}
 use Rattle.log_model.specs.Chain.{Standing, Live, Frozen}
 use Rattle.record_frame.specs.declared.entries.Entry.{Entry}
 use Rattle.record_frame.specs.declared.values.Value.{Value}
 use Rattle.record_frame.specs.declared.values.Value.TheVariants.{Cut, Add as AddValue, Finalise as FinaliseValue, Trim as TrimValue}
 use Rattle.command_frame.specs.declared.items.Item.{Item}
-use Rattle.command_frame.specs.declared.items.Item.TheVariants.{Append, Read, Trim, Add, Finalise}
+use Rattle.command_frame.specs.declared.items.Item.TheVariants.{Append, Read, Trim, Add, Finalise, Ask}
 use Rattle.command_frame.specs.Items.{IsItem}
 use Rattle.reply_frame.specs.declared.replies.Reply.{Reply}
 use Rattle.history_frame.specs.declared.events.Event.{Event}
@@ -28,16 +29,16 @@ use Rattle.serial_schedule.specs.declared.duties.Signal.TheVariants.{Lead, Resta
 use Rattle.serial_schedule.specs.Courses.{beginning}
 use Rattle.serial_schedule.specs.Driven.{replies_of}
 use Rattle.serial_schedule.specs.Duties.{give}
-use Rattle.serial_schedule.specs.Scheduling.{Waiting, at_first, drawn, ready, taken}
+use Rattle.serial_schedule.specs.Scheduling.{Scheduled, Waiting, at_first, drawn, primaries_after, ready, taken}
 use Rattle.serial_schedule.proofs.Ready.{ready-begins}
 use Rattle.quiet_model.specs.Opening.{IsBeginning, IsOpening, empty_disks}
 use Rattle.quiet_model.specs.Settled.{ListsOf}
 use Rattle.quiet_model.proofs.Gathering.{IsSettledNode}
-use Rattle.quiet_law.specs.Matching.{IsInOrder, Matches, agreed_in}
+use Rattle.quiet_law.specs.Matching.{IsInOrder, Matches, agreed_in, primaries_in}
 use Rattle.quiet_law.specs.Quiet.{HasSlots, IsQuietRun, known_at, moment_after}
 use Rattle.quiet_law.proofs.Doing.{delivers, gives, spot}
 use Rattle.quiet_law.proofs.Driving.{beginning_calls, course_played}
-use Rattle.quiet_law.proofs.Items.{draws_after, item_answered, opening_starts}
+use Rattle.quiet_law.proofs.Items.{draws_after, item_answered, opening_starts, primaries_next}
 use Rattle.quiet_law.proofs.Keeping.{in_order_after, in_order_start}
 use Rattle.quiet_law.proofs.Playing.{Plays, finally, letters_in, moment_of, same_end, same_plays}
 
@@ -51,13 +52,14 @@ one_entry replicas state shard segment entry (Some Live) =
 
 one_value : (config : Shape) (run : ℕ) (state : LogState) (item : Item) → length (after config run state item).values ≤ length state.values + 1
 one_value config run state (Append lane shard replica bytes) =
-    one_entry config.replicas (drawn_state state lane) shard.0 replica.0 (next_entry run state lane bytes) (standing_of config.replicas state shard.0)
+    one_entry config.replicas (drawn_state state lane shard.0 replica.0) shard.0 replica.0 (next_entry run state lane bytes) (standing_of config.replicas state shard.0)
 one_value config run state (Read lane shard replica position) = omega arith
 one_value config run state (Trim lane position) = omega (arith, length-append state.values (TrimValue position ∷ []))
 one_value config run state (Add lane shard) = omega (arith, length-append state.values (AddValue shard ∷ []))
 one_value config run state (Finalise lane shard) =
     cond_both (knows config.replicas state shard.0) (with_value state (FinaliseValue shard)) state (λ (s : LogState). length s.values ≤ length state.values + 1)
     (λ _. omega (arith, length-append state.values (FinaliseValue shard ∷ []))) (λ _. omega arith)
+one_value config run state (Ask lane) = omega arith
 
 module _ (config : Shape) (range : InRange config) (run : ℕ) where
   -- orderer 0 knows the values of the log
@@ -105,9 +107,9 @@ module _ (config : Shape) (range : InRange config) (run : ℕ) where
 
     items_played : (items : List Item) (state : LogState) → IsInOrder config run state → AllByRecursion (IsItem config) items → Fits state items
         → (replies : List Reply) (queue : List Waiting) (place : ℕ) (before events : List Event)
-        → Plays config run whole before events (spot config run items state.draws replies [] queue place)
+        → Plays config run whole before events (spot config run items state.draws (primaries_in config state) replies [] queue place)
         → Matches config state (moment_of config before queue)
-        → IsEnded state items replies (finally (spot config run items state.draws replies [] queue place) events)
+        → IsEnded state items replies (finally (spot config run items state.draws (primaries_in config state) replies [] queue place) events)
     items_played [] state is all fits replies queue place before [] plays matches =
         let none_left : letters_in queue ≡ [] = matches.settled.queue in
         let last : before ≡ whole = sym (append-nil before) ∙ plays.parts in
@@ -116,23 +118,26 @@ module _ (config : Shape) (range : InRange config) (run : ℕ) where
     items_played [] state is all fits replies queue place before (event ∷ events) plays matches =
         absurd (let none = plays.follow.0 in cc)
     items_played (item ∷ items) state is all fits replies queue place before events plays matches =
-        let s = spot config run (item ∷ items) state.draws replies [] queue place in
-        let begins = taken (spot config run items (drawn item state.draws) replies [] queue place) (beginning config run state.draws item) in
+        let s = spot config run (item ∷ items) state.draws (primaries_in config state) replies [] queue place in
+        let primaries = primaries_after config item (primaries_in config state) in
+        let begins = taken (spot config run items (drawn item state.draws) primaries replies [] queue place) (beginning config run state.draws (primaries_in config state) item) in
         let same : ready s ≡ ready begins = sym (ready-begins s (item ∷ items) refl refl refl) in
-        let one = course_played config run whole items (drawn item state.draws) (length events) replies (beginning config run state.draws item)
-        (beginning_calls config run state.draws item) queue place before events (omega arith)
+        let one = course_played config run whole items (drawn item state.draws) primaries (length events) replies (beginning config run state.draws (primaries_in config state) item)
+        (beginning_calls config run state.draws (primaries_in config state) item) queue place before events (omega arith)
         (same_plays s begins same config run whole before events plays) in
         let next = after config run state item in
         let few = fits_next state item items queue before events plays.parts matches fits in
         let told = item_answered config range run state item is all.0 few one.calls (moment_of config before queue) (moment_of config one.before one.queue) one.answer matches one.goes in
         let later = replies ++ one.answer ∷ [] in
-        let draws = draws_after config range run state item in
+        let spot_with : List ℕ → List (Option NodeId) → Scheduled = λ draws primaries. spot config run items draws primaries later [] one.queue one.place in
+        let same_spot : spot_with (drawn item state.draws) primaries ≡ spot_with next.draws (primaries_in config next) =
+        ap (λ (draws : List ℕ). spot_with draws primaries) (draws_after config range run state item) ∙ ap (spot_with next.draws) (primaries_next config range run state item) in
         let rest = items_played items next (in_order_after config run state item all.0 is) all.1 (fits_later state item items fits) later one.queue one.place one.before one.events
-        (subst (λ (ds : List ℕ). Plays config run whole one.before one.events (spot config run items ds later [] one.queue one.place)) draws one.plays) told.0 in (
+        (subst (Plays config run whole one.before one.events) same_spot one.plays) told.0 in (
           rest.0,
           sym (same_end s begins same events)
               ∙ sym one.ending
-              ∙ ap (λ (ds : List ℕ). finally (spot config run items ds later [] one.queue one.place) one.events) draws
+              ∙ ap (λ (x : Scheduled). finally x one.events) same_spot
               ∙ rest.1
               ∙ append_assoc replies (one.answer ∷ []) (replies_from config run next items)
               ∙ ap (λ (reply : Reply). replies ++ reply ∷ replies_from config run next items) told.1,
@@ -152,6 +157,7 @@ module _ (config : Shape) (range : InRange config) (run : ℕ) where
       → (replies_of config run items events ≡ log_of config run items) × Matches config (state_after config run (start config) items) (moment_after config events)
   run_ended items events h fits =
       let draws : List ℕ = replicate 64 0 in
+      let primaries : List (Option NodeId) = replicate 64 None in
       let plays : Plays config run events [] events (at_first config run items) = record {
         parts = refl;
         follow = h.driven.followed;
@@ -159,9 +165,9 @@ module _ (config : Shape) (range : InRange config) (run : ℕ) where
         next = h.legal.follow;
         quiet = h.quiet;
       } in
-      let restarted = gives config run events items draws [] Restart (nodes_of config) 0 (give Lead (orderer_node config 0) 1 ∷ DeliverAll ∷ []) [] 0 [] events plays in
-      let led = gives config run events items draws [] Lead 1 (orderer_node config 0) (DeliverAll ∷ []) restarted.queue restarted.place restarted.before restarted.events restarted.plays in
-      let opened = delivers config run events items draws [] (length led.events) [] led.queue led.place led.before led.events (omega arith) led.plays in
+      let restarted = gives config run events items draws primaries [] Restart (nodes_of config) 0 (give Lead (orderer_node config 0) 1 ∷ DeliverAll ∷ []) [] 0 [] events plays in
+      let led = gives config run events items draws primaries [] Lead 1 (orderer_node config 0) (DeliverAll ∷ []) restarted.queue restarted.place restarted.before restarted.events restarted.plays in
+      let opened = delivers config run events items draws primaries [] (length led.events) [] led.queue led.place led.before led.events (omega arith) led.plays in
       let opens : IsOpening config (moment_of config [] []) (moment_of config opened.before opened.queue) = record {
         started = moment_of config restarted.before restarted.queue;
         restarts = restarted.reached;

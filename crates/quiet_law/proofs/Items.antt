@@ -1,9 +1,11 @@
 -- Items over moments, one after another, are answered as the log of one thread answers them.
-use Rattle.std.proofs.Common.{◌≡◌, ◌<◌, ◌≤◌, ◌*◌, ℕ, not, List, [], ◌∷◌, ◌++◌, length, length-append, replicate, Option, Some, None, refl, sym, ap, subst, ⊎_elim, arith, ◌∙◌}
+use Rattle.std.proofs.Common.{◌≡◌, ◌<◌, ◌≤◌, ◌*◌, ℕ, not, List, [], ◌∷◌, ◌++◌, length, length-append, map, replicate, Option, Some, None, refl, sym, ap, subst, ⊎_elim, arith, ◌∙◌}
 use Rattle.std.specs.List.{AllByRecursion}
 use Rattle.std.proofs.lemmas.Bool.{cases_Bool, cond-false, cond-true, cond_both}
+use Rattle.std.proofs.lemmas.List.{map-set}
 use Rattle.reply_frame.specs.declared.replies.Reply.{Reply, NoSuchShard}
 use Rattle.log_base.specs.ClusterShape.{InRange, Shape}
+use Rattle.log_base.specs.declared.numbers.NodeId.{NodeId}
 use Rattle.log_base.specs.declared.numbers.Shard.{Shard}
 use Rattle.log_model.specs.Chain.{Standing, Live, Frozen}
 use Rattle.log_model.specs.Lookup.{segment_index}
@@ -12,20 +14,21 @@ use Rattle.record_frame.specs.declared.values.Value.{Value}
 use Rattle.record_frame.specs.declared.values.Value.TheVariants.{Add as AddValue, Finalise as FinaliseValue, Trim as TrimValue}
 use Rattle.paxos_model.specs.Leader.{slot_limit}
 use Rattle.command_frame.specs.declared.items.Item.{Item}
-use Rattle.command_frame.specs.declared.items.Item.TheVariants.{Append, Read, Trim, Add, Finalise}
+use Rattle.command_frame.specs.declared.items.Item.TheVariants.{Append, Read, Trim, Add, Finalise, Ask}
 use Rattle.command_frame.specs.Items.{IsItem}
 use Rattle.plain_log.specs.Coherent.{IsCoherentState}
-use Rattle.plain_log.specs.Log.{LogState, after, after_entry, drawn as drawn_state, knows, log_of, next_entry, replies_from, reply_to, standing_of, start, state_after, told_slot, with_value}
+use Rattle.plain_log.specs.Log.{LogState, Primary, after, after_entry, drawn as drawn_state, knows, log_of, next_entry, replies_from, reply_to, standing_of, start, state_after, told_slot, with_value}
 use Rattle.plain_log.proofs.Coherent.{coherent_after}
 use Rattle.plain_log.proofs.Joining.{values_stay}
 use Rattle.plain_log.proofs.Lists.{replicate-nil}
 use Rattle.serial_schedule.specs.Courses.{beginning, client_of}
-use Rattle.serial_schedule.specs.Scheduling.{drawn}
+use Rattle.serial_schedule.specs.Scheduling.{drawn, primaries_after}
 use Rattle.quiet_model.specs.Moments.{Moment}
 use Rattle.quiet_model.specs.Opening.{IsBeginning, IsOpening, no_lists}
 use Rattle.quiet_model.proofs.Beginning.{opened}
 use Rattle.quiet_law.specs.Going.{AllGo, Goes}
-use Rattle.quiet_law.specs.Matching.{IsInOrder, Matches}
+use Rattle.quiet_law.specs.Matching.{IsInOrder, Matches, node_of_primary, primaries_in}
+use Rattle.quiet_law.proofs.Asking.{ask_answered}
 use Rattle.quiet_law.proofs.Keeping.{in_order_after, in_order_start}
 use Rattle.quiet_law.proofs.Seeking.{read_answered}
 use Rattle.quiet_law.proofs.Segments.{list_in-or}
@@ -44,7 +47,7 @@ module _ (config : Shape) (range : InRange config) (run : ℕ) where
   finalised : (state : LogState) → IsInOrder config run state → (lane : ℕ) (shard : Shard) → IsItem config (Finalise lane shard)
       → length (after config run state (Finalise lane shard)).values ≤ slot_limit
       → (calls : ℕ) (before later : Moment) (answer : Reply) → Matches config state before
-      → Goes config calls (beginning config run state.draws (Finalise lane shard)) before answer later → IsDone state (Finalise lane shard) later answer
+      → Goes config calls (beginning config run state.draws (primaries_in config state) (Finalise lane shard)) before answer later → IsDone state (Finalise lane shard) later answer
   finalised state is lane shard item few calls before later answer matches goes =
       let value : Value = FinaliseValue shard in
       let known = knows config.replicas state shard.0 in
@@ -63,7 +66,7 @@ module _ (config : Shape) (range : InRange config) (run : ℕ) where
 
   pub item_answered : (state : LogState) (item : Item) → IsInOrder config run state → IsItem config item → length (after config run state item).values ≤ slot_limit
       → (calls : ℕ) (before later : Moment) (answer : Reply) → Matches config state before
-      → Goes config calls (beginning config run state.draws item) before answer later → IsDone state item later answer
+      → Goes config calls (beginning config run state.draws (primaries_in config state) item) before answer later → IsDone state item later answer
   item_answered state (Append lane shard replica bytes) is item few calls before later answer matches goes =
       append_answered config range run state is lane shard replica bytes item few calls before later answer matches goes
   item_answered state (Read lane shard replica position) is item few calls before later answer matches goes =
@@ -76,6 +79,8 @@ module _ (config : Shape) (range : InRange config) (run : ℕ) where
       (slot_left state.values (AddValue shard) few) calls before later answer matches goes
   item_answered state (Finalise lane shard) is item few calls before later answer matches goes =
       finalised state is lane shard item few calls before later answer matches goes
+  item_answered state (Ask lane) is item few calls before later answer matches goes =
+      ask_answered config run state lane is calls before later answer matches goes
 
   -- ---- items, one after another
 
@@ -86,16 +91,36 @@ module _ (config : Shape) (range : InRange config) (run : ℕ) where
 
   pub draws_after : (state : LogState) (item : Item) → drawn item state.draws ≡ (after config run state item).draws
   draws_after state (Append lane shard replica bytes) =
-      sym (draws_entry config.replicas (drawn_state state lane) shard.0 replica.0 (next_entry run state lane bytes) (standing_of config.replicas state shard.0))
+      sym (draws_entry config.replicas (drawn_state state lane shard.0 replica.0) shard.0 replica.0 (next_entry run state lane bytes) (standing_of config.replicas state shard.0))
   draws_after state (Read lane shard replica position) = refl
   draws_after state (Trim lane position) = refl
   draws_after state (Add lane shard) = refl
   draws_after state (Finalise lane shard) =
       cond_both (knows config.replicas state shard.0) (with_value state (FinaliseValue shard)) state (λ (s : LogState). state.draws ≡ s.draws) (λ _. refl) (λ _. refl)
+  draws_after state (Ask lane) = refl
+
+  primaries_entry : (replicas : ℕ) (state : LogState) (s j : ℕ) (entry : Entry) (standing : Option Standing)
+      → (after_entry replicas state s j entry standing).primaries ≡ state.primaries
+  primaries_entry replicas state s j entry None = refl
+  primaries_entry replicas state s j entry (Some Frozen) = refl
+  primaries_entry replicas state s j entry (Some Live) = refl
+
+  pub primaries_next : (state : LogState) (item : Item) → primaries_after config item (primaries_in config state) ≡ primaries_in config (after config run state item)
+  primaries_next state (Append lane shard replica bytes) =
+      let primary : Option Primary = Some (record { shard = shard.0; replica = replica.0 }) in
+      sym (ap (map (node_of_primary config)) (primaries_entry config.replicas (drawn_state state lane shard.0 replica.0) shard.0 replica.0 (next_entry run state lane bytes) (standing_of config.replicas state shard.0))
+      ∙ map-set (node_of_primary config) state.primaries lane primary)
+  primaries_next state (Read lane shard replica position) = refl
+  primaries_next state (Trim lane position) = refl
+  primaries_next state (Add lane shard) = refl
+  primaries_next state (Finalise lane shard) =
+      cond_both (knows config.replicas state shard.0) (with_value state (FinaliseValue shard)) state
+      (λ (s : LogState). primaries_in config state ≡ primaries_in config s) (λ _. refl) (λ _. refl)
+  primaries_next state (Ask lane) = refl
 
   pub items_answered : (items : List Item) (state : LogState) → IsInOrder config run state → AllByRecursion (IsItem config) items
       → length (state_after config run state items).values ≤ slot_limit
-      → (before later : Moment) (answers : List Reply) → Matches config state before → AllGo config run state.draws items before answers later
+      → (before later : Moment) (answers : List Reply) → Matches config state before → AllGo config run state.draws (primaries_in config state) items before answers later
       → Matches config (state_after config run state items) later × (answers ≡ replies_from config run state items)
   items_answered [] state is all few before later answers matches goes = (subst (Matches config state) (sym goes.1) matches, goes.0)
   items_answered (item ∷ items) state is all few before later [] matches goes = absurd goes
@@ -105,7 +130,8 @@ module _ (config : Shape) (range : InRange config) (run : ℕ) where
       let few_now : length next.values ≤ slot_limit = omega (arith, few, ap (λ (values : List Value). length values) stay.1, length-append next.values stay.0) in
       let first = item_answered state item is all.0 few_now goes.0 before goes.1 answer matches goes.2 in
       let rest = items_answered items next (in_order_after config run state item all.0 is) all.1 few goes.1 later answers first.0
-      (subst (λ (draws : List ℕ). AllGo config run draws items goes.1 answers later) (draws_after state item) goes.3) in
+      (subst (λ (primaries : List (Option NodeId)). AllGo config run next.draws primaries items goes.1 answers later) (primaries_next state item)
+      (subst (λ (draws : List ℕ). AllGo config run draws (primaries_after config item (primaries_in config state)) items goes.1 answers later) (draws_after state item) goes.3)) in
       (rest.0, ap (λ (reply : Reply). reply ∷ answers) first.1 ∙ ap (λ (replies : List Reply). reply_to config run state item ∷ replies) rest.1)
 
   -- the opening leads to the start of the log
@@ -123,7 +149,7 @@ module _ (config : Shape) (range : InRange config) (run : ℕ) where
   -- a whole run
   pub run_answered : (items : List Item) → AllByRecursion (IsItem config) items → length (state_after config run (start config) items).values ≤ slot_limit
       → (before first later : Moment) (answers : List Reply) → IsBeginning config before → IsOpening config before first
-      → AllGo config run (start config).draws items first answers later
+      → AllGo config run (start config).draws (primaries_in config (start config)) items first answers later
       → Matches config (state_after config run (start config) items) later × (answers ≡ log_of config run items)
   run_answered items all few before first later answers begins opens goes =
       items_answered items (start config) (in_order_start config run) all few first later answers (opening_starts before first begins opens) goes

@@ -4,6 +4,7 @@ pub mod Next
 pub mod Pairs
 pub mod Finding
 pub mod Answering
+pub mod Asking
 pub mod Keeping
 pub mod Rounds
 pub mod Wishing

@@ -1,6 +1,7 @@
 -- How items go over moments: what an item's course says is due is done, one duty after another, up to its reply.
-use Rattle.std.specs.Prelude.{◌≡◌, ℕ, zero, suc, List, [], ◌∷◌}
+use Rattle.std.specs.Prelude.{◌≡◌, ℕ, zero, suc, List, [], ◌∷◌, Option}
 use Rattle.log_base.specs.ClusterShape.{Shape}
+use Rattle.log_base.specs.declared.numbers.NodeId.{NodeId}
 use Rattle.command_frame.specs.declared.items.Item.{Item}
 use Rattle.reply_frame.specs.declared.replies.Reply.{Reply}
 use Rattle.history_frame.specs.declared.inputs.Input.TheVariants.{Call as ACall}
@@ -12,7 +13,7 @@ use Rattle.serial_schedule.specs.declared.duties.Duty.{Duty}
 use Rattle.serial_schedule.specs.declared.duties.Duty.TheVariants.{Give, DeliverAll, MakeCall}
 use Rattle.serial_schedule.specs.Courses.{beginning, course_of}
 use Rattle.serial_schedule.specs.Duties.{signal_input}
-use Rattle.serial_schedule.specs.Scheduling.{drawn}
+use Rattle.serial_schedule.specs.Scheduling.{drawn, primaries_after}
 use Rattle.quiet_model.specs.Moments.{AreDelivered, Moment, TakeInTurn, Takes}
 
 -- Duties are done up to a call and its answer, no disk fails, and so it goes on.
@@ -31,10 +32,10 @@ Goes config zero (GoesOn duties) before answer after = ⊥
 Goes config (suc calls) (GoesOn duties) before answer after =
     DoneThen config duties (λ awaited reply next. Goes config calls (course_of config awaited reply) next answer after) before
 
--- Items go, one after another.
-abbrev pub AllGo : Shape → ℕ → List ℕ → List Item → Moment → List Reply → Moment → Type 0
-AllGo config run draws [] before answers after = (answers ≡ []) × (after ≡ before)
-AllGo config run draws (item ∷ items) before [] after = ⊥
-AllGo config run draws (item ∷ items) before (answer ∷ answers) after =
-    (calls : ℕ) × (next : Moment) × Goes config calls (beginning config run draws item) before answer next
-    × AllGo config run (drawn item draws) items next answers after
+-- Items go, one after another: the lanes have drawn so many numbers, and these are the primaries of their last appends.
+abbrev pub AllGo : Shape → ℕ → List ℕ → List (Option NodeId) → List Item → Moment → List Reply → Moment → Type 0
+AllGo config run draws primaries [] before answers after = (answers ≡ []) × (after ≡ before)
+AllGo config run draws primaries (item ∷ items) before [] after = ⊥
+AllGo config run draws primaries (item ∷ items) before (answer ∷ answers) after =
+    (calls : ℕ) × (next : Moment) × Goes config calls (beginning config run draws primaries item) before answer next
+    × AllGo config run (drawn item draws) (primaries_after config item primaries) items next answers after

@@ -13,7 +13,7 @@ ghost use Rattle.serial_schedule.specs.Courses.{beginning};
 ghost use Rattle.quiet_model.specs.Moments.{Moment};
 ghost use Rattle.quiet_model.specs.Opening.{IsBeginning, IsOpening};
 ghost use Rattle.quiet_law.specs.Going.{AllGo, Goes};
-ghost use Rattle.quiet_law.specs.Matching.{IsInOrder, Matches};
+ghost use Rattle.quiet_law.specs.Matching.{IsInOrder, Matches, primaries_in};
 
 /// The opening leads to a moment at which the cluster is as the log is at its start.
 pub fn opening_starts_the_log()
@@ -36,7 +36,7 @@ pub fn item_is_answered_as_in_the_log()
         → length (after config run state item).values ≤ slot_limit
         → (calls : ℕ) (before later : Moment) (answer : Reply)
         → Matches config state before
-        → Goes config calls (beginning config run state.draws item) before answer later
+        → Goes config calls (beginning config run state.draws (primaries_in config state) item) before answer later
         → Matches config (after config run state item) later × (answer ≡ reply_to config run state item) × IsInOrder config run (after config run state item) }
 {}
 
@@ -51,6 +51,6 @@ pub fn run_is_answered_as_the_log()
         → (before first later : Moment) (answers : List Reply)
         → IsBeginning config before
         → IsOpening config before first
-        → AllGo config run (start config).draws items first answers later
+        → AllGo config run (start config).draws (primaries_in config (start config)) items first answers later
         → Matches config (state_after config run (start config) items) later × (answers ≡ log_of config run items) }
 {}
