@@ -16,6 +16,7 @@ use Rattle.serial_schedule.specs.Courses.{asked, beginning, client_of, last_numb
 use Rattle.quiet_model.specs.Moments.{Moment}
 use Rattle.quiet_model.specs.Settled.{IsReplica, ListsOf, list_at}
 use Rattle.quiet_law.specs.Going.{Goes}
+use Rattle.subscriber.specs.Following.{Following}
 use Rattle.quiet_law.specs.Matching.{AreListsOf, IsInOrder, IsOfCluster, Matches, agreed_in, node_of_primary, primaries_in}
 use Rattle.quiet_law.proofs.Answering.{replica_answers}
 
@@ -34,7 +35,7 @@ primary_named config [] lane = refl
 primary_named config (primary ∷ primaries) zero = refl
 primary_named config (primary ∷ primaries) (suc lane) = primary_named config primaries lane
 
-module _ (config : Shape) (run : ℕ) (state : LogState) (lane : ℕ) where
+module _ (config : Shape) (run : ℕ) (state : LogState) (lane : ℕ) (stream : Following) where
   abbrev number : ℕ
   number = (last_number run state.draws lane).0
 
@@ -53,7 +54,7 @@ module _ (config : Shape) (run : ℕ) (state : LogState) (lane : ℕ) where
       (same_told (ask member (entries_of config.replicas state primary.shard primary.replica) known lane number))
 
   by_primary : (primary : Option Primary) → IsOfCluster config primary → (calls : ℕ) (before after : Moment) (answer : Reply) → Matches config state before
-      → Goes config calls (asked (client_of lane) (last_number run state.draws lane) (node_of_primary config primary)) before answer after
+      → Goes config stream calls (asked (client_of lane) (last_number run state.draws lane) (node_of_primary config primary)) before answer after
       → Matches config state after × (answer ≡ told_last config.replicas run state lane primary)
   by_primary None is calls before after answer matches goes = (subst (Matches config state) (sym goes.1) matches, goes.0)
   by_primary (Some primary) is zero before after answer matches goes = absurd goes
@@ -65,9 +66,9 @@ module _ (config : Shape) (run : ℕ) (state : LogState) (lane : ℕ) where
       (subst (Matches config state) (sym goes.3.1) stays, goes.3.0 ∙ told.1)
 
   pub ask_answered : IsInOrder config run state → (calls : ℕ) (before after : Moment) (answer : Reply) → Matches config state before
-      → Goes config calls (beginning config run state.draws (primaries_in config state) (Ask lane)) before answer after
+      → Goes config stream calls (beginning config run state.draws (primaries_in config state) (Ask lane)) before answer after
       → Matches config state after × (answer ≡ reply_to config run state (Ask lane))
   ask_answered is calls before after answer matches goes =
       let named = primary_named config state.primaries lane in
       by_primary (primary_of state lane) (is.last lane) calls before after answer matches
-      (subst (λ (node : Option NodeId). Goes config calls (asked (client_of lane) (last_number run state.draws lane) node) before answer after) named goes)
+      (subst (λ (node : Option NodeId). Goes config stream calls (asked (client_of lane) (last_number run state.draws lane) node) before answer after) named goes)

@@ -5,6 +5,7 @@ use Rattle.log_base.specs.ClusterShape.{Shape}
 use Rattle.log_base.specs.declared.numbers.NodeId.{NodeId}
 use Rattle.command_frame.specs.declared.items.Item.{Item}
 use Rattle.reply_frame.specs.declared.replies.Reply.{Reply}
+use Rattle.subscriber.specs.Following.{Following}
 use Rattle.history_frame.specs.declared.events.Event.{Event}
 use Rattle.history_frame.specs.declared.inputs.Call.{Call}
 use Rattle.history_frame.specs.declared.inputs.Input.{Input}
@@ -23,8 +24,8 @@ use Rattle.quiet_law.specs.Quiet.{quiet_mark}
 use Rattle.quiet_law.proofs.Playing.{Plays, finally, is_ready, letters_in, moment_of, passes, same_end, same_plays, stepped, takes_as}
 
 -- a schedule at which no answer is awaited
-abbrev pub spot : Shape → ℕ → List Item → List ℕ → List (Option NodeId) → List Reply → List Duty → List Waiting → ℕ → Scheduled
-spot config run items draws primaries replies duties queue place = record {
+abbrev pub spot : Shape → ℕ → List Item → List ℕ → List (Option NodeId) → Following → List Reply → List Duty → List Waiting → ℕ → Scheduled
+spot config run items draws primaries stream replies duties queue place = record {
   config = config;
   run = run;
   items = items;
@@ -34,6 +35,7 @@ spot config run items draws primaries replies duties queue place = record {
   place = place;
   draws = draws;
   primaries = primaries;
+  stream = stream;
   replies = replies;
 }
 
@@ -46,9 +48,9 @@ EndsInCall (Give Restart first count ∷ duties) = ⊥
 EndsInCall (DeliverAll ∷ duties) = EndsInCall duties
 EndsInCall (MakeCall node call awaited ∷ duties) = duties ≡ []
 
-module _ (config : Shape) (run : ℕ) (whole : List Event) (items : List Item) (draws : List ℕ) (primaries : List (Option NodeId)) (replies : List Reply) where
+module _ (config : Shape) (run : ℕ) (whole : List Event) (items : List Item) (draws : List ℕ) (primaries : List (Option NodeId)) (stream : Following) (replies : List Reply) where
   abbrev here : List Duty → List Waiting → ℕ → Scheduled
-  here duties queue place = spot config run items draws primaries replies duties queue place
+  here duties queue place = spot config run items draws primaries stream replies duties queue place
 
   -- what is left once something was reached: the duties that are due, and the events
   pub record Left (duties : List Duty) (Reached : Moment → Type 0) (most : ℕ) (ends : List Reply) : Type 0 where

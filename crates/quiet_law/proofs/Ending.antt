@@ -11,7 +11,7 @@ use Rattle.record_frame.specs.declared.entries.Entry.{Entry}
 use Rattle.record_frame.specs.declared.values.Value.{Value}
 use Rattle.record_frame.specs.declared.values.Value.TheVariants.{Cut, Add as AddValue, Finalise as FinaliseValue, Trim as TrimValue}
 use Rattle.command_frame.specs.declared.items.Item.{Item}
-use Rattle.command_frame.specs.declared.items.Item.TheVariants.{Append, Read, Trim, Add, Finalise, Ask}
+use Rattle.command_frame.specs.declared.items.Item.TheVariants.{Append, Read, Subscribe, Trim, Add, Finalise, Ask}
 use Rattle.command_frame.specs.Items.{IsItem}
 use Rattle.reply_frame.specs.declared.replies.Reply.{Reply}
 use Rattle.history_frame.specs.declared.events.Event.{Event}
@@ -29,7 +29,9 @@ use Rattle.serial_schedule.specs.declared.duties.Signal.TheVariants.{Lead, Resta
 use Rattle.serial_schedule.specs.Courses.{beginning}
 use Rattle.serial_schedule.specs.Driven.{replies_of}
 use Rattle.serial_schedule.specs.Duties.{give}
-use Rattle.serial_schedule.specs.Scheduling.{Scheduled, Waiting, at_first, drawn, primaries_after, ready, taken}
+use Rattle.serial_schedule.specs.Scheduling.{Scheduled, Waiting, at_first, drawn, primaries_after, ready, stream_before, taken}
+use Rattle.serial_schedule.specs.Streams.{nothing_taken}
+use Rattle.subscriber.specs.Following.{Following}
 use Rattle.serial_schedule.proofs.Ready.{ready-begins}
 use Rattle.quiet_model.specs.Opening.{IsBeginning, IsOpening, empty_disks}
 use Rattle.quiet_model.specs.Settled.{ListsOf}
@@ -54,6 +56,7 @@ one_value : (config : Shape) (run : ℕ) (state : LogState) (item : Item) → le
 one_value config run state (Append lane shard replica bytes) =
     one_entry config.replicas (drawn_state state lane shard.0 replica.0) shard.0 replica.0 (next_entry run state lane bytes) (standing_of config.replicas state shard.0)
 one_value config run state (Read lane shard replica position) = omega arith
+one_value config run state (Subscribe lane shard replica from count) = omega arith
 one_value config run state (Trim lane position) = omega (arith, length-append state.values (TrimValue position ∷ []))
 one_value config run state (Add lane shard) = omega (arith, length-append state.values (AddValue shard ∷ []))
 one_value config run state (Finalise lane shard) =
@@ -106,33 +109,33 @@ module _ (config : Shape) (range : InRange config) (run : ℕ) where
         Matches config (state_after config run state items) (moment_after config whole) × (ends ≡ replies ++ replies_from config run state items)
 
     items_played : (items : List Item) (state : LogState) → IsInOrder config run state → AllByRecursion (IsItem config) items → Fits state items
-        → (replies : List Reply) (queue : List Waiting) (place : ℕ) (before events : List Event)
-        → Plays config run whole before events (spot config run items state.draws (primaries_in config state) replies [] queue place)
+        → (stream : Following) (replies : List Reply) (queue : List Waiting) (place : ℕ) (before events : List Event)
+        → Plays config run whole before events (spot config run items state.draws (primaries_in config state) stream replies [] queue place)
         → Matches config state (moment_of config before queue)
-        → IsEnded state items replies (finally (spot config run items state.draws (primaries_in config state) replies [] queue place) events)
-    items_played [] state is all fits replies queue place before [] plays matches =
+        → IsEnded state items replies (finally (spot config run items state.draws (primaries_in config state) stream replies [] queue place) events)
+    items_played [] state is all fits stream replies queue place before [] plays matches =
         let none_left : letters_in queue ≡ [] = matches.settled.queue in
         let last : before ≡ whole = sym (append-nil before) ∙ plays.parts in
         let delivered = subst (λ (letters : List Sent). Matches config state (record { nodes = node_after config empty_disks before; queue = letters })) none_left matches in
         (subst (λ (es : List Event). Matches config state (moment_after config es)) last delivered, sym (append-nil replies))
-    items_played [] state is all fits replies queue place before (event ∷ events) plays matches =
+    items_played [] state is all fits stream replies queue place before (event ∷ events) plays matches =
         absurd (let none = plays.follow.0 in cc)
-    items_played (item ∷ items) state is all fits replies queue place before events plays matches =
-        let s = spot config run (item ∷ items) state.draws (primaries_in config state) replies [] queue place in
+    items_played (item ∷ items) state is all fits stream replies queue place before events plays matches =
+        let s = spot config run (item ∷ items) state.draws (primaries_in config state) stream replies [] queue place in
         let primaries = primaries_after config item (primaries_in config state) in
-        let begins = taken (spot config run items (drawn item state.draws) primaries replies [] queue place) (beginning config run state.draws (primaries_in config state) item) in
+        let begins = taken (spot config run items (drawn item state.draws) primaries (stream_before item stream) replies [] queue place) (beginning config run state.draws (primaries_in config state) item) in
         let same : ready s ≡ ready begins = sym (ready-begins s (item ∷ items) refl refl refl) in
-        let one = course_played config run whole items (drawn item state.draws) primaries (length events) replies (beginning config run state.draws (primaries_in config state) item)
+        let one = course_played config run whole items (drawn item state.draws) primaries (length events) (stream_before item stream) replies (beginning config run state.draws (primaries_in config state) item)
         (beginning_calls config run state.draws (primaries_in config state) item) queue place before events (omega arith)
         (same_plays s begins same config run whole before events plays) in
         let next = after config run state item in
         let few = fits_next state item items queue before events plays.parts matches fits in
-        let told = item_answered config range run state item is all.0 few one.calls (moment_of config before queue) (moment_of config one.before one.queue) one.answer matches one.goes in
+        let told = item_answered config range run state item is all.0 few stream one.calls (moment_of config before queue) (moment_of config one.before one.queue) one.answer matches one.goes in
         let later = replies ++ one.answer ∷ [] in
-        let spot_with : List ℕ → List (Option NodeId) → Scheduled = λ draws primaries. spot config run items draws primaries later [] one.queue one.place in
+        let spot_with : List ℕ → List (Option NodeId) → Scheduled = λ draws primaries. spot config run items draws primaries one.left later [] one.queue one.place in
         let same_spot : spot_with (drawn item state.draws) primaries ≡ spot_with next.draws (primaries_in config next) =
         ap (λ (draws : List ℕ). spot_with draws primaries) (draws_after config range run state item) ∙ ap (spot_with next.draws) (primaries_next config range run state item) in
-        let rest = items_played items next (in_order_after config run state item all.0 is) all.1 (fits_later state item items fits) later one.queue one.place one.before one.events
+        let rest = items_played items next (in_order_after config run state item all.0 is) all.1 (fits_later state item items fits) one.left later one.queue one.place one.before one.events
         (subst (Plays config run whole one.before one.events) same_spot one.plays) told.0 in (
           rest.0,
           sym (same_end s begins same events)
@@ -165,14 +168,14 @@ module _ (config : Shape) (range : InRange config) (run : ℕ) where
         next = h.legal.follow;
         quiet = h.quiet;
       } in
-      let restarted = gives config run events items draws primaries [] Restart (nodes_of config) 0 (give Lead (orderer_node config 0) 1 ∷ DeliverAll ∷ []) [] 0 [] events plays in
-      let led = gives config run events items draws primaries [] Lead 1 (orderer_node config 0) (DeliverAll ∷ []) restarted.queue restarted.place restarted.before restarted.events restarted.plays in
-      let opened = delivers config run events items draws primaries [] (length led.events) [] led.queue led.place led.before led.events (omega arith) led.plays in
+      let restarted = gives config run events items draws primaries nothing_taken [] Restart (nodes_of config) 0 (give Lead (orderer_node config 0) 1 ∷ DeliverAll ∷ []) [] 0 [] events plays in
+      let led = gives config run events items draws primaries nothing_taken [] Lead 1 (orderer_node config 0) (DeliverAll ∷ []) restarted.queue restarted.place restarted.before restarted.events restarted.plays in
+      let opened = delivers config run events items draws primaries nothing_taken [] (length led.events) [] led.queue led.place led.before led.events (omega arith) led.plays in
       let opens : IsOpening config (moment_of config [] []) (moment_of config opened.before opened.queue) = record {
         started = moment_of config restarted.before restarted.queue;
         restarts = restarted.reached;
         lead = record { middle = moment_of config led.before led.queue; turns = led.reached; deliveries = opened.reached };
       } in
       let matches = opening_starts config range run (moment_of config [] []) (moment_of config opened.before opened.queue) begins_down opens in
-      let done = items_played events items (start config) (in_order_start config run) h.each fits [] opened.queue opened.place opened.before opened.events opened.plays matches in
+      let done = items_played events items (start config) (in_order_start config run) h.each fits nothing_taken [] opened.queue opened.place opened.before opened.events opened.plays matches in
       (sym (opened.ending ∙ led.ending ∙ restarted.ending) ∙ done.1, done.0)

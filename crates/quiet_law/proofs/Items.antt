@@ -14,7 +14,7 @@ use Rattle.record_frame.specs.declared.values.Value.{Value}
 use Rattle.record_frame.specs.declared.values.Value.TheVariants.{Add as AddValue, Finalise as FinaliseValue, Trim as TrimValue}
 use Rattle.paxos_model.specs.Leader.{slot_limit}
 use Rattle.command_frame.specs.declared.items.Item.{Item}
-use Rattle.command_frame.specs.declared.items.Item.TheVariants.{Append, Read, Trim, Add, Finalise, Ask}
+use Rattle.command_frame.specs.declared.items.Item.TheVariants.{Append, Read, Subscribe, Trim, Add, Finalise, Ask}
 use Rattle.command_frame.specs.Items.{IsItem}
 use Rattle.plain_log.specs.Coherent.{IsCoherentState}
 use Rattle.plain_log.specs.Log.{LogState, Primary, after, after_entry, drawn as drawn_state, knows, log_of, next_entry, replies_from, reply_to, standing_of, start, state_after, told_slot, with_value}
@@ -22,17 +22,20 @@ use Rattle.plain_log.proofs.Coherent.{coherent_after}
 use Rattle.plain_log.proofs.Joining.{values_stay}
 use Rattle.plain_log.proofs.Lists.{replicate-nil}
 use Rattle.serial_schedule.specs.Courses.{beginning, client_of}
-use Rattle.serial_schedule.specs.Scheduling.{drawn, primaries_after}
+use Rattle.serial_schedule.specs.Scheduling.{drawn, primaries_after, stream_before}
+use Rattle.serial_schedule.specs.Streams.{nothing_taken}
 use Rattle.quiet_model.specs.Moments.{Moment}
 use Rattle.quiet_model.specs.Opening.{IsBeginning, IsOpening, no_lists}
 use Rattle.quiet_model.proofs.Beginning.{opened}
 use Rattle.quiet_law.specs.Going.{AllGo, Goes}
+use Rattle.subscriber.specs.Following.{Following}
 use Rattle.quiet_law.specs.Matching.{IsInOrder, Matches, node_of_primary, primaries_in}
 use Rattle.quiet_law.proofs.Asking.{ask_answered}
 use Rattle.quiet_law.proofs.Keeping.{in_order_after, in_order_start}
 use Rattle.quiet_law.proofs.Seeking.{read_answered}
 use Rattle.quiet_law.proofs.Segments.{list_in-or}
 use Rattle.quiet_law.proofs.Storing.{append_answered}
+use Rattle.quiet_law.proofs.Streaming.{subscription_answered}
 use Rattle.quiet_law.proofs.Wishing.{wish_answered, wish_refused}
 
 -- a value that joins is within the slots
@@ -44,43 +47,46 @@ module _ (config : Shape) (range : InRange config) (run : ℕ) where
   abbrev IsDone : LogState → Item → Moment → Reply → Type 0
   IsDone state item later answer = Matches config (after config run state item) later × (answer ≡ reply_to config run state item)
 
-  finalised : (state : LogState) → IsInOrder config run state → (lane : ℕ) (shard : Shard) → IsItem config (Finalise lane shard)
+  finalised : (state : LogState) → IsInOrder config run state → (lane : ℕ) (shard : Shard) (stream : Following) → IsItem config (Finalise lane shard)
       → length (after config run state (Finalise lane shard)).values ≤ slot_limit
       → (calls : ℕ) (before later : Moment) (answer : Reply) → Matches config state before
-      → Goes config calls (beginning config run state.draws (primaries_in config state) (Finalise lane shard)) before answer later → IsDone state (Finalise lane shard) later answer
-  finalised state is lane shard item few calls before later answer matches goes =
+      → Goes config stream calls (beginning config run state.draws (primaries_in config state) (Finalise lane shard)) before answer later → IsDone state (Finalise lane shard) later answer
+  finalised state is lane shard stream item few calls before later answer matches goes =
       let value : Value = FinaliseValue shard in
       let known = knows config.replicas state shard.0 in
       ⊎_elim
       (λ there.
       let next = cond-true known (with_value state value) state there in
       let coherent = subst (IsCoherentState config) next (coherent_after config run state (Finalise lane shard) item is.coherent) in
-      let done = wish_answered config range state (client_of lane) value (ap not there) coherent
+      let done = wish_answered config range state (client_of lane) value stream (ap not there) coherent
       (slot_left state.values value (subst (λ (s : LogState). length s.values ≤ slot_limit) next few)) calls before later answer matches goes in
       (subst (λ (s : LogState). Matches config s later) (sym next) done.0, done.1 ∙ sym (cond-true known (told_slot state) NoSuchShard there)))
       (λ unknown.
       let next = cond-false known (with_value state value) state unknown in
-      let done = wish_refused config range state (client_of lane) value (ap not unknown) calls before later answer matches goes in
+      let done = wish_refused config range state (client_of lane) value stream (ap not unknown) calls before later answer matches goes in
       (subst (λ (s : LogState). Matches config s later) (sym next) done.0, done.1 ∙ sym (cond-false known (told_slot state) NoSuchShard unknown)))
       (cases_Bool known)
 
   pub item_answered : (state : LogState) (item : Item) → IsInOrder config run state → IsItem config item → length (after config run state item).values ≤ slot_limit
-      → (calls : ℕ) (before later : Moment) (answer : Reply) → Matches config state before
-      → Goes config calls (beginning config run state.draws (primaries_in config state) item) before answer later → IsDone state item later answer
-  item_answered state (Append lane shard replica bytes) is item few calls before later answer matches goes =
-      append_answered config range run state is lane shard replica bytes item few calls before later answer matches goes
-  item_answered state (Read lane shard replica position) is item few calls before later answer matches goes =
-      read_answered config state is.coherent (client_of lane) position replica item.2 shard.0 calls item.1 before later answer matches goes
-  item_answered state (Trim lane position) is item few calls before later answer matches goes =
-      wish_answered config range state (client_of lane) (TrimValue position) refl (coherent_after config run state (Trim lane position) item is.coherent)
+      → (stream : Following) (calls : ℕ) (before later : Moment) (answer : Reply) → Matches config state before
+      → Goes config (stream_before item stream) calls (beginning config run state.draws (primaries_in config state) item) before answer later → IsDone state item later answer
+  item_answered state (Append lane shard replica bytes) is item few stream calls before later answer matches goes =
+      append_answered config range run state is lane shard replica bytes item stream few calls before later answer matches goes
+  item_answered state (Read lane shard replica position) is item few stream calls before later answer matches goes =
+      read_answered config state is.coherent (client_of lane) position replica item.2 stream shard.0 calls item.1 before later answer matches goes
+  item_answered state (Subscribe lane shard replica from count) is item few stream calls before later answer matches goes =
+      let reaches = is.reaches in
+      subscription_answered config state is.coherent (omega arith) shard replica (client_of lane) from count item.1 item.2 item.4 calls before later answer matches goes
+  item_answered state (Trim lane position) is item few stream calls before later answer matches goes =
+      wish_answered config range state (client_of lane) (TrimValue position) stream refl (coherent_after config run state (Trim lane position) item is.coherent)
       (slot_left state.values (TrimValue position) few) calls before later answer matches goes
-  item_answered state (Add lane shard) is item few calls before later answer matches goes =
-      wish_answered config range state (client_of lane) (AddValue shard) refl (coherent_after config run state (Add lane shard) item is.coherent)
+  item_answered state (Add lane shard) is item few stream calls before later answer matches goes =
+      wish_answered config range state (client_of lane) (AddValue shard) stream refl (coherent_after config run state (Add lane shard) item is.coherent)
       (slot_left state.values (AddValue shard) few) calls before later answer matches goes
-  item_answered state (Finalise lane shard) is item few calls before later answer matches goes =
-      finalised state is lane shard item few calls before later answer matches goes
-  item_answered state (Ask lane) is item few calls before later answer matches goes =
-      ask_answered config run state lane is calls before later answer matches goes
+  item_answered state (Finalise lane shard) is item few stream calls before later answer matches goes =
+      finalised state is lane shard stream item few calls before later answer matches goes
+  item_answered state (Ask lane) is item few stream calls before later answer matches goes =
+      ask_answered config run state lane stream is calls before later answer matches goes
 
   -- ---- items, one after another
 
@@ -93,6 +99,7 @@ module _ (config : Shape) (range : InRange config) (run : ℕ) where
   draws_after state (Append lane shard replica bytes) =
       sym (draws_entry config.replicas (drawn_state state lane shard.0 replica.0) shard.0 replica.0 (next_entry run state lane bytes) (standing_of config.replicas state shard.0))
   draws_after state (Read lane shard replica position) = refl
+  draws_after state (Subscribe lane shard replica from count) = refl
   draws_after state (Trim lane position) = refl
   draws_after state (Add lane shard) = refl
   draws_after state (Finalise lane shard) =
@@ -111,6 +118,7 @@ module _ (config : Shape) (range : InRange config) (run : ℕ) where
       sym (ap (map (node_of_primary config)) (primaries_entry config.replicas (drawn_state state lane shard.0 replica.0) shard.0 replica.0 (next_entry run state lane bytes) (standing_of config.replicas state shard.0))
       ∙ map-set (node_of_primary config) state.primaries lane primary)
   primaries_next state (Read lane shard replica position) = refl
+  primaries_next state (Subscribe lane shard replica from count) = refl
   primaries_next state (Trim lane position) = refl
   primaries_next state (Add lane shard) = refl
   primaries_next state (Finalise lane shard) =
@@ -128,7 +136,7 @@ module _ (config : Shape) (range : InRange config) (run : ℕ) where
       let next = after config run state item in
       let stay = values_stay config run next items in
       let few_now : length next.values ≤ slot_limit = omega (arith, few, ap (λ (values : List Value). length values) stay.1, length-append next.values stay.0) in
-      let first = item_answered state item is all.0 few_now goes.0 before goes.1 answer matches goes.2 in
+      let first = item_answered state item is all.0 few_now nothing_taken goes.0 before goes.1 answer matches goes.2 in
       let rest = items_answered items next (in_order_after config run state item all.0 is) all.1 few goes.1 later answers first.0
       (subst (λ (primaries : List (Option NodeId)). AllGo config run next.draws primaries items goes.1 answers later) (primaries_next state item)
       (subst (λ (draws : List ℕ). AllGo config run draws (primaries_after config item (primaries_in config state)) items goes.1 answers later) (draws_after state item) goes.3)) in

@@ -9,7 +9,7 @@ use Rattle.record_frame.specs.declared.entries.Entry.{Entry}
 use Rattle.log_model.specs.Chain.{Standing, Live, Frozen}
 use Rattle.log_model.specs.Lookup.{segment_index}
 use Rattle.command_frame.specs.declared.items.Item.{Item}
-use Rattle.command_frame.specs.declared.items.Item.TheVariants.{Append, Read, Trim, Add, Finalise, Ask}
+use Rattle.command_frame.specs.declared.items.Item.TheVariants.{Append, Read, Subscribe, Trim, Add, Finalise, Ask}
 use Rattle.command_frame.specs.Items.{IsItem}
 use Rattle.record_frame.specs.declared.values.Value.{Value}
 use Rattle.record_frame.specs.declared.values.Value.TheVariants.{Cut, Add as AddValue, Finalise as FinaliseValue, Trim as TrimValue}
@@ -17,6 +17,7 @@ use Rattle.plain_log.specs.Log.{LogState, Primary, after, after_entry, cut_of, d
 use Rattle.plain_log.proofs.Coherent.{coherent_after, coherent_start}
 use Rattle.plain_log.proofs.Lists.{replicate-nil}
 use Rattle.quiet_law.specs.Matching.{IsDrawn, IsInOrder, IsOfCluster}
+use Rattle.quiet_law.proofs.Positions.{reaches_after}
 
 -- no lane has a last append at first
 no_primary : (config : Shape) (count lane : ℕ) → IsOfCluster config (slice_index_or (replicate count (let none : Option Primary = None in none)) lane None)
@@ -30,6 +31,7 @@ in_order_start config run = record {
   lanes = length-replicate {A = ℕ} 64 0;
   drawn = λ index. subst (AllByRecursion (IsDrawn run (start config))) (sym (replicate-nil (config.shards * config.replicas) index)) tt;
   few = λ index. let none = ap (λ (entries : List Entry). length entries) (replicate-nil (config.shards * config.replicas) index) in omega (arith, none);
+  reaches = omega arith;
   last = no_primary config 64;
 }
 
@@ -141,6 +143,7 @@ numbered_after config run state (Append lane shard replica bytes) item is =
     numbered_entry config run (drawn state lane shard.0 replica.0) shard.0 replica.0 (next_entry run state lane bytes) (standing_of config.replicas state shard.0)
     (numbered_drawn config run state lane shard.0 replica.0 item.1 item.2 is) (new_drawn run state lane shard.0 replica.0 bytes (omega arith))
 numbered_after config run state (Read lane shard replica position) item is = is
+numbered_after config run state (Subscribe lane shard replica from count) item is = is
 numbered_after config run state (Trim lane position) item is = numbered_value config run state (TrimValue position) is
 numbered_after config run state (Add lane shard) item is = numbered_value config run state (AddValue shard) is
 numbered_after config run state (Finalise lane shard) item is =
@@ -157,5 +160,6 @@ in_order_after config run state item fits is =
       lanes = later.lanes;
       drawn = later.drawn;
       few = later.few;
+      reaches = reaches_after config run state item fits is.coherent is.reaches;
       last = later.last;
     }

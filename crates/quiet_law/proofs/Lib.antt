@@ -5,10 +5,12 @@ pub mod Pairs
 pub mod Finding
 pub mod Answering
 pub mod Asking
+pub mod Positions
 pub mod Keeping
 pub mod Rounds
 pub mod Wishing
 pub mod Seeking
+pub mod Streaming
 pub mod Storing
 pub mod Items
 pub mod Playing

@@ -47,6 +47,7 @@ use Rattle.quiet_model.specs.Settled.{AreLists, IsReplica, ListsOf, list_at}
 use Rattle.quiet_model.proofs.Calling.{submitted}
 use Rattle.quiet_model.proofs.Settling.{settled_by}
 use Rattle.quiet_law.specs.Going.{Goes}
+use Rattle.subscriber.specs.Following.{Following}
 use Rattle.quiet_law.specs.Matching.{AreListsOf, IsDrawn, IsInOrder, Matches, agreed_in, primaries_in}
 use Rattle.quiet_law.proofs.Answering.{replica_answers}
 use Rattle.quiet_law.proofs.Next.{cut_next}
@@ -97,7 +98,7 @@ longer_same config state lists s r entry a b many sizes same t p c d =
     (cases_eq t s)
 
 module _ (config : Shape) (range : InRange config) (run : ℕ) (state : LogState) (is : IsInOrder config run state) (lane : ℕ) (shard : Shard) (replica : Replica) (bytes : List ℕ)
-    (item : IsItem config (Append lane shard replica bytes)) where
+    (item : IsItem config (Append lane shard replica bytes)) (stream : Following) where
   abbrev client : Client
   client = client_of lane
 
@@ -140,10 +141,10 @@ module _ (config : Shape) (range : InRange config) (run : ℕ) (state : LogState
   node_id = storage_node config shard.0 replica.0
 
   refused : (why : Submitted) → ((reply : Reply) → reply ≡ submit_reply why → (calls : ℕ) (before after : Moment) (answer : Reply)
-      → Goes config calls (course_of config (Storing (record { 0 = node_id }) client number) reply) before answer after → (answer ≡ submit_reply why) × (after ≡ before))
+      → Goes config stream calls (course_of config (Storing (record { 0 = node_id }) client number) reply) before answer after → (answer ≡ submit_reply why) × (after ≡ before))
       → (calls : ℕ) (before after : Moment) (answer : Reply) → (matches : Matches config state before)
       → submit (member_of config shard.0 replica.0) (own_list matches.lists) (knowledge_of (member_of config shard.0 replica.0) state.values) entry ≡ nothing_put why
-      → Goes config calls (beginning config run state.draws (primaries_in config state) (Append lane shard replica bytes)) before answer after
+      → Goes config stream calls (beginning config run state.draws (primaries_in config state) (Append lane shard replica bytes)) before answer after
       → Matches config own_state after × (answer ≡ submit_reply why)
   refused why ends zero before after answer matches e goes = absurd goes
   refused why ends (suc calls) before after answer matches e goes =
@@ -193,12 +194,12 @@ module _ (config : Shape) (range : InRange config) (run : ℕ) (state : LogState
     -- once the entry is stored, it is copied, covered and told its position
     covered : length state.values < slot_limit → (ballot : ℕ) (lists : ListsOf) → AreListsOf config state lists → (at : ℕ) (calls : ℕ) (before after : Moment) (answer : Reply)
         → IsAhead config (agreed_in ballot state) lists (with_one_more lists shard.0 replica.0 entry) before
-        → Goes config calls (GoesOn (settling config ++ enquiry (record { 0 = node_id }) client number ∷ [])) before answer after
+        → Goes config stream calls (GoesOn (settling config ++ enquiry (record { 0 = node_id }) client number ∷ [])) before answer after
         → Matches config next_state after × (answer ≡ reply_to config run state (Append lane shard replica bytes))
     covered few ballot lists same at zero before after answer ahead goes = absurd goes
     covered few ballot lists same at (suc calls) before after answer ahead goes =
         let done = settles config (record { 0 = node_id }) (Ask client number) Last
-        (λ (awaited : Awaited) (reply : Reply) (next : Moment). Goes config calls (course_of config awaited reply) next answer after) before goes in
+        (λ (awaited : Awaited) (reply : Reply) (next : Moment). Goes config stream calls (course_of config awaited reply) next answer after) before goes in
         let longer = with_one_more lists shard.0 replica.0 entry in
         let same_now = longer_same config own_state lists shard.0 replica.0 entry item.1 item.2 is.coherent.segments_of_all ahead.old_sizes same in
         let next = cut_next config range ballot longer ahead.new_sizes own_state shard.0 replica.0 entry item.1 item.2 live is.coherent same_now few in
@@ -214,31 +215,31 @@ module _ (config : Shape) (range : InRange config) (run : ℕ) (state : LogState
         (subst (Matches config next_state) (sym done.rest.1) stays, done.rest.0 ∙ told.1 ∙ sym position.3)
 
     stored_answered : length state.values < slot_limit → (calls : ℕ) (before after : Moment) (answer : Reply) → Matches config state before
-        → Goes config calls (beginning config run state.draws (primaries_in config state) (Append lane shard replica bytes)) before answer after
+        → Goes config stream calls (beginning config run state.draws (primaries_in config state) (Append lane shard replica bytes)) before answer after
         → Matches config next_state after × (answer ≡ reply_to config run state (Append lane shard replica bytes))
     stored_answered few zero before after answer matches goes = absurd goes
     stored_answered few (suc calls) before after answer matches goes =
         let stores = submits matches.lists matches.same (λ _. few) ∙ ap (submitted_by (own_list matches.lists) entry) live in
         let taken = submitted config (agreed_in matches.ballot state) matches.lists shard.0 replica.0 item.1 item.2 client number bytes stores before goes.1 goes.0 matches.settled goes.2 in
         covered few matches.ballot matches.lists matches.same (length (own_list matches.lists)) calls goes.1 after answer taken.0
-        (subst (λ (reply : Reply). Goes config calls (course_of config (Storing (record { 0 = node_id }) client number) reply) goes.1 answer after) taken.1 goes.3)
+        (subst (λ (reply : Reply). Goes config stream calls (course_of config (Storing (record { 0 = node_id }) client number) reply) goes.1 answer after) taken.1 goes.3)
 
   by_standing : (standing : Option Standing) → standing_of config.replicas state shard.0 ≡ standing
       → length (after_entry config.replicas own_state shard.0 replica.0 entry standing).values ≤ slot_limit
       → (calls : ℕ) (before later : Moment) (answer : Reply) → Matches config state before
-      → Goes config calls (beginning config run state.draws (primaries_in config state) (Append lane shard replica bytes)) before answer later
+      → Goes config stream calls (beginning config run state.draws (primaries_in config state) (Append lane shard replica bytes)) before answer later
       → Matches config (after_entry config.replicas own_state shard.0 replica.0 entry standing) later × (answer ≡ reply_to config run state (Append lane shard replica bytes))
   by_standing None has few calls before later answer matches goes =
       let e = submits matches.lists matches.same (λ live. absurd (let other = sym has ∙ live in cc)) ∙ ap (submitted_by (own_list matches.lists) entry) has in
       let done = refused SubmitNotAdded
-      (λ reply told n here there said more. subst (λ (r : Reply). Goes config n (course_of config (Storing (record { 0 = node_id }) client number) r) here said there) told more)
+      (λ reply told n here there said more. subst (λ (r : Reply). Goes config stream n (course_of config (Storing (record { 0 = node_id }) client number) r) here said there) told more)
       calls before later answer matches e goes in
       let refusal : reply_to config run state (Append lane shard replica bytes) ≡ NotAdded = rw has refl in
       (done.0, done.1 ∙ sym refusal)
   by_standing (Some Frozen) has few calls before later answer matches goes =
       let e = submits matches.lists matches.same (λ live. absurd (let other = sym has ∙ live in cc)) ∙ ap (submitted_by (own_list matches.lists) entry) has in
       let done = refused SubmitFinalised
-      (λ reply told n here there said more. subst (λ (r : Reply). Goes config n (course_of config (Storing (record { 0 = node_id }) client number) r) here said there) told more)
+      (λ reply told n here there said more. subst (λ (r : Reply). Goes config stream n (course_of config (Storing (record { 0 = node_id }) client number) r) here said there) told more)
       calls before later answer matches e goes in
       let refusal : reply_to config run state (Append lane shard replica bytes) ≡ Finalised = rw has refl in
       (done.0, done.1 ∙ sym refusal)
@@ -248,6 +249,6 @@ module _ (config : Shape) (range : InRange config) (run : ℕ) (state : LogState
 
   pub append_answered : length (after config run state (Append lane shard replica bytes)).values ≤ slot_limit
       → (calls : ℕ) (before later : Moment) (answer : Reply) → Matches config state before
-      → Goes config calls (beginning config run state.draws (primaries_in config state) (Append lane shard replica bytes)) before answer later
+      → Goes config stream calls (beginning config run state.draws (primaries_in config state) (Append lane shard replica bytes)) before answer later
       → Matches config (after config run state (Append lane shard replica bytes)) later × (answer ≡ reply_to config run state (Append lane shard replica bytes))
   append_answered few calls before later answer matches goes = by_standing (standing_of config.replicas state shard.0) refl few calls before later answer matches goes

@@ -26,13 +26,14 @@ use Rattle.quiet_model.proofs.Polling.{leading}
 use Rattle.quiet_model.proofs.Settling.{settled_by}
 use Rattle.quiet_model.proofs.Still.{none_ahead}
 use Rattle.quiet_law.specs.Going.{Goes}
+use Rattle.subscriber.specs.Following.{Following}
 use Rattle.quiet_law.specs.Matching.{AreListsOf, Matches, agreed_in}
 use Rattle.quiet_law.proofs.Answering.{orderer_answers}
 use Rattle.quiet_law.proofs.Next.{wish_next}
 use Rattle.quiet_law.proofs.Pairs.{last_value}
 use Rattle.quiet_law.proofs.Rounds.{settles}
 
-module _ (config : Shape) (range : InRange config) (state : LogState) (client : Client) (value : Value) where
+module _ (config : Shape) (range : InRange config) (state : LogState) (client : Client) (value : Value) (stream : Following) where
   pub some_orderer : 1 ≤ config.orderers
   some_orderer = let odd = range.odd in omega arith
 
@@ -48,12 +49,12 @@ module _ (config : Shape) (range : InRange config) (state : LogState) (client : 
     -- once the request is taken, the value is decided and told
     confirmed : IsCoherentState config (with_value state value) → length state.values < slot_limit
         → (calls : ℕ) (before after : Moment) (answer : Reply) → IsSettled config (wishing (agreed_in ballot state) value) lists before
-        → Goes config calls (GoesOn (settling config ++ confirmation config 0 client value (length state.values) ∷ [])) before answer after
+        → Goes config stream calls (GoesOn (settling config ++ confirmation config 0 client value (length state.values) ∷ [])) before answer after
         → Matches config (with_value state value) after × (answer ≡ told_slot state)
     confirmed is few zero before after answer settled goes = absurd goes
     confirmed is few (suc calls) before after answer settled goes =
         let done = settles config (record { 0 = orderer_node config 0 }) (Settled client value (length state.values)) Last
-        (λ (awaited : Awaited) (reply : Reply) (next : Moment). Goes config calls (course_of config awaited reply) next answer after) before goes in
+        (λ (awaited : Awaited) (reply : Reply) (next : Moment). Goes config stream calls (course_of config awaited reply) next answer after) before goes in
         let agreed = wishing (agreed_in ballot state) value in
         let next = wish_next config range ballot lists settled.sizes state value same is few in
         let decided = settled_by config agreed lists lists value before done.settled range (none_ahead config agreed lists before settled) next done.rounds in
@@ -73,23 +74,23 @@ module _ (config : Shape) (range : InRange config) (state : LogState) (client : 
   -- a value that may be decided
   pub wish_answered : finalises_unknown config state.values value ≡ false → IsCoherentState config (with_value state value) → length state.values < slot_limit
       → (calls : ℕ) (before after : Moment) (answer : Reply) → Matches config state before
-      → Goes config calls (GoesOn (request config 0 client value ∷ [])) before answer after
+      → Goes config stream calls (GoesOn (request config 0 client value ∷ [])) before answer after
       → Matches config (with_value state value) after × (answer ≡ told_slot state)
   wish_answered known is few zero before after answer matches goes = absurd goes
   wish_answered known is few (suc calls) before after answer matches goes =
       let taken = requested config some_orderer (agreed_in matches.ballot state) matches.lists client value known before goes.1 goes.0 matches.settled goes.2 in
       confirmed matches.ballot matches.lists matches.same is few calls goes.1 after answer taken.0
-      (subst (λ (reply : Reply). Goes config calls (course_of config (Requesting 0 client value) reply) goes.1 answer after) taken.1 goes.3)
+      (subst (λ (reply : Reply). Goes config stream calls (course_of config (Requesting 0 client value) reply) goes.1 answer after) taken.1 goes.3)
 
   -- the finalisation of a shard that was not added
   pub wish_refused : finalises_unknown config state.values value ≡ true
       → (calls : ℕ) (before after : Moment) (answer : Reply) → Matches config state before
-      → Goes config calls (GoesOn (request config 0 client value ∷ [])) before answer after
+      → Goes config stream calls (GoesOn (request config 0 client value ∷ [])) before answer after
       → Matches config state after × (answer ≡ NoSuchShard)
   wish_refused unknown zero before after answer matches goes = absurd goes
   wish_refused unknown (suc calls) before after answer matches goes =
       let told = orderer_answers config (agreed_in matches.ballot state) matches.lists some_orderer (Request client value) NoSuchShard
       (refused_row matches.ballot matches.lists matches.same unknown) before goes.1 goes.0 matches.settled goes.2 in
-      let rest = subst (λ (reply : Reply). Goes config calls (course_of config (Requesting 0 client value) reply) goes.1 answer after) told.1 goes.3 in
+      let rest = subst (λ (reply : Reply). Goes config stream calls (course_of config (Requesting 0 client value) reply) goes.1 answer after) told.1 goes.3 in
       let stays : Matches config state goes.1 = record { ballot = matches.ballot; lists = matches.lists; same = matches.same; settled = told.0 } in
       (subst (Matches config state) (sym rest.1) stays, rest.0)

@@ -3,17 +3,19 @@ use Rattle.std.specs.Prelude.{◌≡◌, ℕ, zero, suc, List, [], ◌∷◌, Op
 use Rattle.log_base.specs.ClusterShape.{Shape}
 use Rattle.log_base.specs.declared.numbers.NodeId.{NodeId}
 use Rattle.command_frame.specs.declared.items.Item.{Item}
-use Rattle.reply_frame.specs.declared.replies.Reply.{Reply}
+use Rattle.reply_frame.specs.declared.replies.Reply.{Reply, Nothing}
+use Rattle.subscriber.specs.Following.{Following, after_offer}
 use Rattle.history_frame.specs.declared.inputs.Input.TheVariants.{Call as ACall}
 use Rattle.history_frame.specs.declared.inputs.Mark.TheVariants.{Done}
 use Rattle.serial_schedule.specs.declared.courses.Course.{Course}
-use Rattle.serial_schedule.specs.declared.courses.Course.TheVariants.{Replies, GoesOn}
+use Rattle.serial_schedule.specs.declared.courses.Course.TheVariants.{Replies, GoesOn, Takes as TakesEntry, Completes, Ends}
 use Rattle.serial_schedule.specs.declared.duties.Awaited.{Awaited}
 use Rattle.serial_schedule.specs.declared.duties.Duty.{Duty}
 use Rattle.serial_schedule.specs.declared.duties.Duty.TheVariants.{Give, DeliverAll, MakeCall}
 use Rattle.serial_schedule.specs.Courses.{beginning, course_of}
 use Rattle.serial_schedule.specs.Duties.{signal_input}
-use Rattle.serial_schedule.specs.Scheduling.{drawn, primaries_after}
+use Rattle.serial_schedule.specs.Scheduling.{drawn, primaries_after, stream_before}
+use Rattle.serial_schedule.specs.Streams.{nothing_taken, stream_of}
 use Rattle.quiet_model.specs.Moments.{AreDelivered, Moment, TakeInTurn, Takes}
 
 -- Duties are done up to a call and its answer, no disk fails, and so it goes on.
@@ -25,17 +27,26 @@ DoneThen config (DeliverAll ∷ duties) goes_on before = (next : Moment) × AreD
 DoneThen config (MakeCall node call awaited ∷ duties) goes_on before =
     (reply : Reply) × (next : Moment) × Takes config before node.0 (ACall call) Done reply next × goes_on awaited reply next
 
--- A course goes from one moment to another, with so many calls at most, and ends with an answer.
-abbrev pub Goes : Shape → ℕ → Course → Moment → Reply → Moment → Type 0
-Goes config calls (Replies reply) before answer after = (answer ≡ reply) × (after ≡ before)
-Goes config zero (GoesOn duties) before answer after = ⊥
-Goes config (suc calls) (GoesOn duties) before answer after =
-    DoneThen config duties (λ awaited reply next. Goes config calls (course_of config awaited reply) next answer after) before
+-- A course goes from one moment to another, with so many calls at most, while a subscription under way has taken so much, and ends
+-- with an answer.
+abbrev pub Goes : Shape → Following → ℕ → Course → Moment → Reply → Moment → Type 0
+Goes config stream calls (Replies reply) before answer after = (answer ≡ reply) × (after ≡ before)
+Goes config stream calls (Completes position entry) before answer after =
+    (answer ≡ stream_of (after_offer stream position.0 entry) Nothing) × (after ≡ before)
+Goes config stream calls (Ends last) before answer after = (answer ≡ stream_of stream last) × (after ≡ before)
+Goes config stream zero (GoesOn duties) before answer after = ⊥
+Goes config stream zero (TakesEntry position entry duty) before answer after = ⊥
+Goes config stream (suc calls) (GoesOn duties) before answer after =
+    DoneThen config duties (λ awaited reply next. Goes config stream calls (course_of config awaited reply) next answer after) before
+Goes config stream (suc calls) (TakesEntry position entry duty) before answer after =
+    DoneThen config (duty ∷ [])
+    (λ awaited reply next. Goes config (after_offer stream position.0 entry) calls (course_of config awaited reply) next answer after) before
 
--- Items go, one after another: the lanes have drawn so many numbers, and these are the primaries of their last appends.
+-- Items go, one after another: the lanes have drawn so many numbers, these are the primaries of their last appends, and no
+-- subscription is under way.
 abbrev pub AllGo : Shape → ℕ → List ℕ → List (Option NodeId) → List Item → Moment → List Reply → Moment → Type 0
 AllGo config run draws primaries [] before answers after = (answers ≡ []) × (after ≡ before)
 AllGo config run draws primaries (item ∷ items) before [] after = ⊥
 AllGo config run draws primaries (item ∷ items) before (answer ∷ answers) after =
-    (calls : ℕ) × (next : Moment) × Goes config calls (beginning config run draws primaries item) before answer next
+    (calls : ℕ) × (next : Moment) × Goes config (stream_before item nothing_taken) calls (beginning config run draws primaries item) before answer next
     × AllGo config run (drawn item draws) (primaries_after config item primaries) items next answers after

@@ -2,6 +2,7 @@
 use Rattle.std.specs.Prelude.{◌≡◌, ◌<◌, ◌≤◌, ℕ, List, [], length, map, slice_index, slice_index_or, Option, Some, None}
 use Rattle.std.specs.List.{AllByRecursion}
 use Rattle.log_base.specs.ClusterShape.{Shape}
+use Rattle.log_model.specs.Chain.{chain_of}
 use Rattle.log_base.specs.Draws.{number_of_draw}
 use Rattle.log_base.specs.declared.numbers.NodeId.{NodeId}
 use Rattle.node_table.specs.Numbering.{storage_node}
@@ -20,13 +21,19 @@ abbrev pub IsOfCluster : Shape → Option Primary → Type 0
 IsOfCluster config None = Unit {0}
 IsOfCluster config (Some primary) = (primary.shard < config.shards) × (primary.replica < config.replicas)
 
+-- the log has no more positions than values
+abbrev pub Reaches : ℕ → LogState → Type 0
+Reaches replicas state = (chain_of replicas state.values).end ≤ length state.values
+
 -- What is so of each state of the log: covered lengths are those of the lists, there are 64 lanes, each entry's number was
--- drawn, no list has more entries than there are values, and each lane's last append went to a replica of the cluster.
+-- drawn, neither a list has more entries nor the log more positions than there are values, and each lane's last append went to a
+-- replica of the cluster.
 pub record IsInOrder (config : Shape) (run : ℕ) (state : LogState) : Type 0 where
   pub coherent : IsCoherentState config state
   pub lanes : length state.draws ≡ 64
   pub drawn : (index : ℕ) → AllByRecursion (IsDrawn run state) (slice_index_or state.segments index [])
   pub few : (index : ℕ) → length (slice_index_or state.segments index []) ≤ length state.values
+  pub reaches : Reaches config.replicas state
   pub last : (lane : ℕ) → IsOfCluster config (primary_of state lane)
 
 -- the primary of a lane's last append, as the schedule names it: by its node

@@ -10,6 +10,8 @@ ghost use Rattle.command_frame.specs.Items.{IsItem};
 ghost use Rattle.reply_frame.specs.declared.replies.Reply.{Reply};
 ghost use Rattle.plain_log.specs.Log.{LogState, after, log_of, reply_to, start, state_after};
 ghost use Rattle.serial_schedule.specs.Courses.{beginning};
+ghost use Rattle.serial_schedule.specs.Scheduling.{stream_before};
+ghost use Rattle.subscriber.specs.Following.{Following};
 ghost use Rattle.quiet_model.specs.Moments.{Moment};
 ghost use Rattle.quiet_model.specs.Opening.{IsBeginning, IsOpening};
 ghost use Rattle.quiet_law.specs.Going.{AllGo, Goes};
@@ -34,9 +36,9 @@ pub fn item_is_answered_as_in_the_log()
         → IsInOrder config run state
         → IsItem config item
         → length (after config run state item).values ≤ slot_limit
-        → (calls : ℕ) (before later : Moment) (answer : Reply)
+        → (stream : Following) (calls : ℕ) (before later : Moment) (answer : Reply)
         → Matches config state before
-        → Goes config calls (beginning config run state.draws (primaries_in config state) item) before answer later
+        → Goes config (stream_before item stream) calls (beginning config run state.draws (primaries_in config state) item) before answer later
         → Matches config (after config run state item) later × (answer ≡ reply_to config run state item) × IsInOrder config run (after config run state item) }
 {}
 
