@@ -36,6 +36,7 @@ use Rattle.node_model.specs.StorageNode.{StorageNode, member_of}
 use Rattle.node_model.specs.StorageRow.{answered, ask_reply, call_row, on_ask, on_submit, submit_reply, submitted_as}
 use Rattle.plain_log.specs.Log.{LogState, after, after_entry, cut_of, drawn, entries_of, reply_to, standing_of, stored}
 use Rattle.plain_log.proofs.Answering.{append_told, stored_position}
+use Rattle.plain_log.proofs.Pairs.{IsBefore}
 use Rattle.serial_schedule.specs.declared.courses.Course.TheVariants.{GoesOn}
 use Rattle.serial_schedule.specs.declared.duties.Awaited.{Awaited}
 use Rattle.serial_schedule.specs.declared.duties.Awaited.TheVariants.{Last, Storing}
@@ -51,12 +52,12 @@ use Rattle.subscriber.specs.Following.{Following}
 use Rattle.quiet_law.specs.Matching.{AreListsOf, IsDrawn, IsInOrder, Matches, agreed_in, primaries_in}
 use Rattle.quiet_law.proofs.Answering.{replica_answers}
 use Rattle.quiet_law.proofs.Next.{cut_next}
-use Rattle.quiet_law.proofs.Pairs.{IsBelow, new_entry, submitted_by, told_position_of}
+use Rattle.quiet_law.proofs.Pairs.{new_entry, submitted_by, told_position_of}
 use Rattle.quiet_law.proofs.Rounds.{settles}
 
 -- the numbers of a lane that were drawn are below the one that it draws next
 drawn_below : (run : ℕ) (state : LogState) (lane : ℕ) (entries : List Entry) → AllByRecursion (IsDrawn run state) entries
-    → AllByRecursion (IsBelow lane (number_of_draw run (slice_index state.draws lane))) entries
+    → AllByRecursion (IsBefore lane (number_of_draw run (slice_index state.draws lane))) entries
 drawn_below run state lane [] all = tt
 drawn_below run state lane (entry ∷ entries) all =
     (λ own. subst (λ (n : ℕ). entry.number.0 < number_of_draw run (slice_index state.draws n)) own all.0, drawn_below run state lane entries all.1)
@@ -122,7 +123,7 @@ module _ (config : Shape) (range : InRange config) (run : ℕ) (state : LogState
       let held = same shard.0 replica.0 item.1 item.2 in
       let index = segment_index config.replicas shard.0 replica.0 in
       new_entry (member_of config shard.0 replica.0) (own_list lists) (knowledge_of (member_of config shard.0 replica.0) state.values) entry
-      (subst (AllByRecursion (IsBelow lane number.0)) (sym held) (drawn_below run state lane (entries_of config.replicas state shard.0 replica.0) (is.drawn index)))
+      (subst (AllByRecursion (IsBefore lane number.0)) (sym held) (drawn_below run state lane (entries_of config.replicas state shard.0 replica.0) (is.drawn index)))
       (λ live. let few = is.few index in let less = room live in let size = ap (λ (list : List Entry). length list) held in omega (arith, few, less, size))
 
   -- ---- a refusal
