@@ -18,3 +18,4 @@ pub mod Doing
 pub mod Driving
 pub mod Ending
 pub mod Marking
+pub mod WorkedRun

@@ -1,3 +1,4 @@
 pub mod Matching
 pub mod Going
 pub mod Quiet
+pub mod Worked

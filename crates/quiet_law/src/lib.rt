@@ -9,6 +9,7 @@ mod answers;
 mod deciding;
 mod marks;
 mod runs;
+mod worked;
 
 pub use answers::{
     item_is_answered_as_in_the_log, opening_starts_the_log, run_is_answered_as_the_log,
@@ -16,3 +17,4 @@ pub use answers::{
 pub use deciding::{entry_is_covered_next, wish_is_decided_next};
 pub use marks::unfailing_rows_are_quiet;
 pub use runs::{quiet_runs_are_answered_as_the_log, quiet_runs_end_as_the_log};
+pub use worked::worked_run_is_quiet;
