@@ -4,6 +4,7 @@ pub mod Placed
 pub mod Along
 pub mod Posted
 pub mod Beginning
+pub mod Drawing
 pub mod Counted
 pub mod Permitted
 pub mod Permitting

@@ -3,6 +3,7 @@ use Rattle.std.specs.Prelude.{◌≡◌, ℕ, ◌+◌, ◌<◌, ◌≤◌, ◌^�
 use Rattle.std.specs.List.{AllByRecursion}
 use Rattle.log_base.specs.ClusterShape.{Shape}
 use Rattle.record_frame.specs.declared.refusals.Refusal.{Refusal}
+use Rattle.client_session.specs.Sessions.{Drawing}
 use Rattle.command_frame.specs.declared.items.Item.{Item}
 use Rattle.command_frame.specs.declared.items.Item.TheVariants.{Append}
 use Rattle.reply_frame.specs.declared.replies.Reply.{Reply, Stream'}
@@ -17,6 +18,7 @@ use Rattle.serial_schedule.specs.declared.duties.Duty.{Duty}
 use Rattle.serial_schedule.specs.declared.duties.Subscription.{Subscription}
 use Rattle.serial_schedule.specs.declared.duties.Duty.TheVariants.{Give, DeliverAll, MakeCall}
 use Rattle.serial_schedule.specs.declared.courses.Course.{Course}
+use Rattle.serial_schedule.specs.Lanes.{AreLanes, draws_of, run_of}
 use Rattle.serial_schedule.specs.declared.courses.Course.TheVariants.{Replies, GoesOn, Takes, Completes, Ends}
 
 -- a reply that holds no other
@@ -100,3 +102,8 @@ pub record IsKept (config : Shape) (run : ℕ) (items : List Item) (duties : Lis
   pub answer : IsAwaitedOr config awaited
   pub lanes : length draws ≡ 64
   pub room : (lane : ℕ) → slice_index draws lane + length items ≤ 65536
+
+-- and each of the 64 lanes draws for its client, all in the run
+pub record IsKeptWith (config : Shape) (lanes : List Drawing) (items : List Item) (duties : List Duty) (awaited : Option Awaited) : Type 0 where
+  pub kept : IsKept config (run_of lanes) items duties awaited (draws_of lanes)
+  pub lanes_are : AreLanes lanes

@@ -1,6 +1,7 @@
 pub mod Duties
 pub mod Streams
 pub mod Courses
+pub mod Lanes
 pub mod Scheduling
 pub mod Keeping
 pub mod Noting

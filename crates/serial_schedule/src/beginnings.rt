@@ -1,37 +1,54 @@
 //! How items begin.
 
-ghost use Rattle.std.specs.Prelude.{◌≡◌, ◌≤◌, ◌<◌, ◌-◌, [], ◌∷◌, None, IfOk, replicate, slice_index_or};
-ghost use Rattle.log_base.specs.Draws.{number_of_draw};
+ghost use Rattle.std.specs.Prelude.{◌≡◌, ◌<◌, ◌∷◌, length, map, slice_set, Some, OnOk, OnErr};
 ghost use Rattle.log_base.specs.Shape.{shape};
+ghost use Rattle.client_session.specs.Sessions.{after_draw};
 ghost use Rattle.command_frame.specs.Items.{IsItem};
-ghost use Rattle.serial_schedule.specs.Courses.{asked, beginning, client_of, last_number, reading_at, request, submission};
+ghost use Rattle.command_frame.specs.Streams.{unplaced};
+ghost use Rattle.subscriber.specs.Following.{Following};
+ghost use Rattle.serial_schedule.specs.Courses.{beginning, client_of, reading_at, request, submission};
 ghost use Rattle.serial_schedule.specs.Keeping.{HasRoom};
+ghost use Rattle.serial_schedule.specs.Lanes.{AreLanes, asked_of, draws_of, lane_at, primaries_of, run_of, submitted};
+ghost use Rattle.serial_schedule.specs.Noting.{duties_with, replies_with};
 ghost use Rattle.serial_schedule.specs.Scheduling.{drawn, primaries_after, stream_before};
 
 use crate::calls::{enquiry, reading, request};
-use crate::courses::{Course, goes_on};
 use crate::duties::{Awaited, Duty};
+use crate::lanes::{draw, last_pair};
 use crate::streams::{following, subscription_at};
+use client_session::{Pair, Session};
 use command_frame::{Item, Reply};
 use history_frame::Call;
-use log_base::{Bytes, Client, Config, Memory, NodeId, Number, Position, Replica, Shard};
+use log_base::{Bytes, Client, Config, Memory, NodeId, Position, Replica, Shard};
 use node_table::storage;
 use record_frame::Value;
 use std::alloc::Global;
+use std::collections::VecDeque;
 use subscriber::Subscriber;
 
-/// How an item begins.
-pub fn first_course(
+/// Begins an item: what it calls for comes before all that is due, or it has its reply at once.
+pub fn begin_item(
     alloc: Global,
     config: &Config,
-    run: u32,
-    draws: &[u32; 64],
-    primaries: &[Option<NodeId>; 64],
     item: &Item,
-) -> Result<Course, Memory>
-    requires run { run ≤ 1000000 }
+    lanes: &mut Vec<Session>,
+    duties: &mut VecDeque<Duty>,
+    replies: &mut Vec<Reply>,
+) -> Result<(), Memory>
     requires item { IsItem (shape config.now) item.now }
-    ensures { IfOk result (λ course. course ≡ beginning (shape config.now) run draws.now primaries.now item.now) }
+    requires lanes { AreLanes lanes.old.items }
+    requires room { HasRoom (draws_of lanes.old.items) item.now }
+    ensures lanes { OnOk result (AreLanes lanes.new.items × (run_of lanes.new.items ≡ run_of lanes.old.items)) }
+    ensures draws { OnOk result (draws_of lanes.new.items ≡ drawn item.now (draws_of lanes.old.items)) }
+    ensures primaries { OnOk result (primaries_of lanes.new.items ≡ primaries_after (shape config.now) item.now (primaries_of lanes.old.items)) }
+    ensures duties { OnOk result (duties.new.items ≡ duties_with
+        (Some (beginning (shape config.now) (run_of lanes.old.items) (draws_of lanes.old.items) (primaries_of lanes.old.items) item.now)) duties.old.items) }
+    ensures replies { OnOk result ((taken : Following) → map unplaced replies.new.items ≡ replies_with
+        (Some (beginning (shape config.now) (run_of lanes.old.items) (draws_of lanes.old.items) (primaries_of lanes.old.items) item.now)) taken
+        (map unplaced replies.old.items)) }
+    ensures same_lanes { OnErr result (lanes.new.items ≡ lanes.old.items) }
+    ensures same_duties { OnErr result (duties.new.items ≡ duties.old.items) }
+    ensures same_replies { OnErr result (replies.new.items ≡ replies.old.items) }
 {
     match item {
         Item::Append {
@@ -41,9 +58,7 @@ pub fn first_course(
             bytes,
         } => {
             let primary = storage(config, *shard, *replica);
-            let number = next_number(run, draws[usize::from(*lane)]);
-            let duty = submission(alloc, primary, client_of(*lane), number, bytes)?;
-            goes_on(alloc, duty)
+            submit(alloc, lanes, *lane, primary, bytes, duties)
         }
         Item::Read {
             lane,
@@ -52,8 +67,10 @@ pub fn first_course(
             position,
         } => {
             let client = client_of(*lane);
-            let duty = first_reading(config, *shard, *replica, client, *position);
-            goes_on(alloc, duty)
+            put_first(
+                first_reading(config, *shard, *replica, client, *position),
+                duties,
+            )
         }
         Item::Subscribe {
             lane,
@@ -63,45 +80,18 @@ pub fn first_course(
             count,
         } => {
             let first = subscription_at(*shard, *replica, client_of(*lane), *from, *count);
-            goes_on(alloc, following(config, first))
+            put_first(following(config, first), duties)
         }
-        Item::Trim { lane, position } => wish(alloc, config, *lane, Value::Trim(*position)),
-        Item::Add { lane, shard } => wish(alloc, config, *lane, Value::Add(*shard)),
-        Item::Finalise { lane, shard } => wish(alloc, config, *lane, Value::Finalise(*shard)),
-        Item::Ask { lane } => asked(alloc, run, draws, primaries, *lane),
-    }
-}
-
-/// No lane has drawn a number.
-pub fn no_draws() -> [u32; 64]
-    ensures { result ≡ replicate 64 0 }
-{
-    [0; 64]
-}
-
-/// The lane of an append draws a number.
-pub fn draw(draws: &mut [u32; 64], item: &Item)
-    requires { HasRoom draws.old item.now }
-    ensures { draws.new ≡ drawn item.now draws.old }
-{
-    if let Item::Append { lane, .. } = item {
-        draws[usize::from(*lane)] += 1;
-    }
-}
-
-/// The primary of an append is its lane's last.
-pub fn keep_primary(config: &Config, primaries: &mut [Option<NodeId>; 64], item: &Item)
-    requires { IsItem (shape config.now) item.now }
-    ensures { primaries.new ≡ primaries_after (shape config.now) item.now primaries.old }
-{
-    if let Item::Append {
-        lane,
-        shard,
-        replica,
-        ..
-    } = item
-    {
-        primaries[usize::from(*lane)] = Some(storage(config, *shard, *replica));
+        Item::Trim { lane, position } => put_first(
+            wish(config, *lane, Value::Trim(*position)),
+            duties,
+        ),
+        Item::Add { lane, shard } => put_first(wish(config, *lane, Value::Add(*shard)), duties),
+        Item::Finalise { lane, shard } => put_first(
+            wish(config, *lane, Value::Finalise(*shard)),
+            duties,
+        ),
+        Item::Ask { lane } => ask(&last_pair(lanes, *lane), duties, replies),
     }
 }
 
@@ -119,14 +109,6 @@ fn client_of(lane: u8) -> Client
     ensures { result.0 ≡ lane }
 {
     Client(u16::from(lane))
-}
-
-/// The number that is drawn after so many others.
-fn next_number(run: u32, drawn: u32) -> Number
-    requires { run ≤ 1000000 }
-    ensures { result.0 ≡ number_of_draw run drawn }
-{
-    Number(u64::from(run) * 4_294_967_296 + u64::from(drawn))
 }
 
 /// The replica that an item names is asked for the entry at a position.
@@ -150,61 +132,81 @@ fn first_reading(
 }
 
 /// A value is requested of orderer 0 on a lane.
-fn wish(alloc: Global, config: &Config, lane: u8, value: Value) -> Result<Course, Memory>
-    ensures { IfOk result (λ course. course ≡ Course.GoesOn (request (shape config.now) 0 (client_of lane) value ∷ [])) }
+fn wish(config: &Config, lane: u8, value: Value) -> Duty
+    ensures { result ≡ request (shape config.now) 0 (client_of lane) value }
 {
-    goes_on(alloc, request(config, 0, client_of(lane), &value))
+    request(config, 0, client_of(lane), &value)
 }
 
-/// The number that was drawn last, after so many draws.
-fn last_number(run: u32, drawn: u32) -> Number
-    requires { run ≤ 1000000 }
-    ensures { result.0 ≡ number_of_draw run (drawn - 1) }
+/// The node of the pair that a lane drew last is asked where its append stands, if there is one.
+fn ask(
+    last: &Option<Pair>,
+    duties: &mut VecDeque<Duty>,
+    replies: &mut Vec<Reply>,
+) -> Result<(), Memory>
+    ensures duties { OnOk result (duties.new.items ≡ duties_with (Some (asked_of last.now)) duties.old.items) }
+    ensures replies { OnOk result ((taken : Following)
+        → map unplaced replies.new.items ≡ replies_with (Some (asked_of last.now)) taken (map unplaced replies.old.items)) }
+    ensures same_duties { OnErr result (duties.new.items ≡ duties.old.items) }
+    ensures same_replies { OnErr result (replies.new.items ≡ replies.old.items) }
 {
-    next_number(run, drawn.saturating_sub(1))
-}
-
-/// The primary of a lane's last append is asked where it stands, if there is one.
-fn asked(
-    alloc: Global,
-    run: u32,
-    draws: &[u32; 64],
-    primaries: &[Option<NodeId>; 64],
-    lane: u8,
-) -> Result<Course, Memory>
-    requires run { run ≤ 1000000 }
-    requires lane { lane < 64 }
-    ensures { IfOk result (λ course. course ≡ asked (client_of lane) (last_number run draws.now lane) (slice_index_or primaries.now lane None)) }
-{
-    let number = last_number(run, draws[usize::from(lane)]);
-    match primaries[usize::from(lane)] {
-        Some(primary) => goes_on(alloc, enquiry(primary, client_of(lane), number)),
-        None => Ok(Course::Replies(Reply::NothingKept)),
+    match last {
+        Some(pair) => put_first(enquiry(pair.node, pair.client, pair.number), duties),
+        None => {
+            replies.push(Reply::NothingKept)?;
+            Ok(())
+        }
     }
 }
 
-/// A record is submitted to its primary. Its bytes are copied.
-fn submission(
+/// A lane draws a pair, and its record is submitted to the primary. The bytes are copied.
+fn submit(
     alloc: Global,
+    lanes: &mut Vec<Session>,
+    lane: u8,
     primary: NodeId,
-    client: Client,
-    number: Number,
     bytes: &Bytes,
-) -> Result<Duty, Memory>
-    ensures { IfOk result (λ duty. duty ≡ submission primary client number bytes.now) }
+    duties: &mut VecDeque<Duty>,
+) -> Result<(), Memory>
+    requires lane { lane < length lanes.old.items }
+    requires room { (lane_at lanes.old.items lane).draws < 65536 }
+    ensures drawn { OnOk result (lanes.new.items ≡ slice_set lanes.old.items lane (after_draw (lane_at lanes.old.items lane) primary.0)) }
+    ensures due { OnOk result (duties.new.items ≡ submitted (lane_at lanes.old.items lane) primary bytes.now ∷ duties.old.items) }
+    ensures same_lanes { OnErr result (lanes.new.items ≡ lanes.old.items) }
+    ensures same_duties { OnErr result (duties.new.items ≡ duties.old.items) }
 {
-    let bytes = Vec::from_slice(alloc, bytes.get())?;
-    Ok(Duty::MakeCall {
-        node: primary,
+    let copy = Vec::from_slice(alloc, bytes.get())?;
+    duties.reserve(1)?;
+    let pair = draw(lanes, lane, primary);
+    duties.push_front_reserved(submission(&pair, copy));
+    Ok(())
+}
+
+/// A record is submitted under a pair, to its node.
+fn submission(pair: &Pair, bytes: Vec<u8>) -> Duty
+    ensures { result ≡ submission pair.now.node pair.now.client pair.now.number bytes.items }
+{
+    Duty::MakeCall {
+        node: pair.node,
         call: Call::Submit {
-            client,
-            number,
+            client: pair.client,
+            number: pair.number,
             bytes: Bytes::of(bytes),
         },
         awaited: Awaited::Storing {
-            primary,
-            client,
-            number,
+            primary: pair.node,
+            client: pair.client,
+            number: pair.number,
         },
-    })
+    }
+}
+
+/// Puts a duty before others.
+fn put_first(duty: Duty, duties: &mut VecDeque<Duty>) -> Result<(), Memory>
+    ensures ok { OnOk result (duties.new.items ≡ duty ∷ duties.old.items) }
+    ensures err { OnErr result (duties.new.items ≡ duties.old.items) }
+{
+    duties.reserve(1)?;
+    duties.push_front_reserved(duty);
+    Ok(())
 }

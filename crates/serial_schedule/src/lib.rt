@@ -9,6 +9,7 @@ mod beginnings;
 mod calls;
 mod courses;
 mod duties;
+mod lanes;
 mod laws;
 mod letters;
 mod noting;

@@ -10,13 +10,15 @@ ghost use Rattle.serial_schedule.specs.Scheduling.{at_first, begun_next, deliver
 ghost use Rattle.serial_schedule.specs.Keeping.{IsGiven, IsSingle};
 ghost use Rattle.command_frame.specs.Streams.{unplaced};
 
-use crate::beginnings::{draw, first_course, follow_from, keep_primary, no_draws};
+use crate::beginnings::{begin_item, follow_from};
 use crate::duties::{Awaited, Duty};
+use crate::lanes::fresh_lanes;
 use crate::letters::Letter;
-use crate::noting::{follow, go_on, post};
+use crate::noting::{follow, post};
 use crate::passing::pass_over;
 use crate::rounds::{opening, signal_input};
 use crate::turns::Turn;
+use client_session::Session;
 use command_frame::{Item, Reply};
 use history_frame::{Happened, Input};
 use log_base::{Config, Memory, NodeId, Outbox, Position};
@@ -30,14 +32,12 @@ use subscriber::Subscriber;
 pub struct Schedule<'a> {
     alloc: Global,
     config: Config,
-    run: u32,
     items: &'a [Item],
     duties: VecDeque<Duty>,
     queue: VecDeque<Letter>,
     awaited: Option<Awaited>,
     place: u32,
-    draws: [u32; 64],
-    primaries: [Option<NodeId>; 64],
+    lanes: Vec<Session>,
     subscriber: Subscriber,
     replies: Vec<Reply>,
 }
@@ -46,7 +46,8 @@ impl<'a> Model for Schedule<'a> {
     ghost use Rattle.log_base.specs.Shape.{shape};
     ghost use Rattle.std.specs.Coded.{codes};
     ghost use Rattle.reply_frame.specs.contracts.replies.Reply as reply;
-    ghost use Rattle.serial_schedule.specs.Keeping.{IsKept};
+    ghost use Rattle.serial_schedule.specs.Keeping.{IsKeptWith};
+    ghost use Rattle.serial_schedule.specs.Lanes.{draws_of, primaries_of, run_of};
     ghost use Rattle.serial_schedule.specs.Scheduling.{Scheduled};
     ghost use Rattle.command_frame.specs.Streams.{unplaced};
     ghost use Rattle.std.specs.Prelude.{map};
@@ -57,19 +58,19 @@ impl<'a> Model for Schedule<'a> {
 
     ghost view = { λ s. record {
       config = shape s.config;
-      run = s.run;
+      run = run_of s.lanes.items;
       items = s.items.now;
       duties = s.duties.items;
       queue = s.queue.items;
       awaited = s.awaited;
       place = s.place;
-      draws = s.draws;
-      primaries = s.primaries;
+      draws = draws_of s.lanes.items;
+      primaries = primaries_of s.lanes.items;
       stream = s.subscriber;
       replies = map unplaced s.replies.items;
     } };
 
-    ghost invariant = { λ s. IsKept (shape s.config) s.run s.items.now s.duties.items s.awaited s.draws };
+    ghost invariant = { λ s. IsKeptWith (shape s.config) s.lanes.items s.items.now s.duties.items s.awaited };
 }
 
 impl<'a> Schedule<'a> {
@@ -86,17 +87,16 @@ impl<'a> Schedule<'a> {
         ensures { IfOk result (λ schedule. schedule ≡ at_first (shape config) run items.now) }
     {
         let duties = VecDeque::from_vec(opening(alloc, &config)?);
+        let lanes = fresh_lanes(alloc, run)?;
         Ok(Schedule {
             alloc,
             config,
-            run,
             items,
             duties,
             queue: VecDeque::new(alloc),
             awaited: None,
             place: 0,
-            draws: no_draws(),
-            primaries: [None; 64],
+            lanes,
             subscriber: Subscriber::new(alloc, Position(0)),
             replies: Vec::new(alloc),
         })
@@ -198,24 +198,15 @@ impl<'a> Schedule<'a> {
         ensures err { OnErr result (self.new ≡ self.old) }
     {
         if let Some((item, items)) = self.items.split_first() {
-            let course = first_course(
+            begin_item(
                 self.alloc,
                 &self.config,
-                self.run,
-                &self.draws,
-                &self.primaries,
                 item,
-            )?;
-            go_on(
-                self.alloc,
-                course,
-                &mut self.subscriber,
+                &mut self.lanes,
                 &mut self.duties,
                 &mut self.replies,
             )?;
             follow_from(self.alloc, &mut self.subscriber, item);
-            draw(&mut self.draws, item);
-            keep_primary(&self.config, &mut self.primaries, item);
             self.items = items;
         }
         Ok(())

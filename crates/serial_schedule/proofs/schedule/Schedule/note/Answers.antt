@@ -9,15 +9,20 @@ use Rattle.serial_schedule.proofs.Kept.{followed-is, noted-made}
 use Rattle.serial_schedule.proofs.schedule.Schedule.note.Goals as goal
 
 pub invariant_of-self-2 : goal.invariant_of-self-2
-invariant_of-self-2 c = record {
-  run_fits = c.self.invariant.run_fits;
-  each_item = c.self.invariant.each_item;
-  each_duty = subst (AllByRecursion (IsDuty (shape c.self.inside.config))) (sym c.in_ok-follow.ensures.duties)
-      (followed-is (shape c.self.inside.config) c.self.inside.awaited c.args.happened.now.reply c.self.inside.duties.items c.self.invariant.answer c.self.invariant.each_duty);
-  answer = tt;
-  lanes = c.self.invariant.lanes;
-  room = c.self.invariant.room;
-}
+invariant_of-self-2 c =
+    let kept = c.self.invariant.kept in
+    record {
+      kept = record {
+        run_fits = kept.run_fits;
+        each_item = kept.each_item;
+        each_duty = subst (AllByRecursion (IsDuty (shape c.self.inside.config))) (sym c.in_ok-follow.ensures.duties)
+            (followed-is (shape c.self.inside.config) c.self.inside.awaited c.args.happened.now.reply c.self.inside.duties.items kept.answer kept.each_duty);
+        answer = tt;
+        lanes = kept.lanes;
+        room = kept.room;
+      };
+      lanes_are = c.self.invariant.lanes_are;
+    }
 
 pub returns-clause-ok : goal.returns-clause-ok
 returns-clause-ok c =

@@ -6,12 +6,17 @@ use Rattle.serial_schedule.proofs.Kept.{each-due}
 use Rattle.serial_schedule.proofs.schedule.Schedule.pass.Goals as goal
 
 pub invariant_of-self : goal.invariant_of-self
-invariant_of-self c = record {
-  run_fits = c.self.invariant.run_fits;
-  each_item = c.self.invariant.each_item;
-  each_duty = subst (AllByRecursion (IsDuty (shape c.self.inside.config))) (sym c.pass_over.ensures.due)
-      (each-due (IsDuty (shape c.self.inside.config)) c.self.inside.queue.items c.self.inside.duties.items c.self.invariant.each_duty);
-  answer = c.self.invariant.answer;
-  lanes = c.self.invariant.lanes;
-  room = c.self.invariant.room;
-}
+invariant_of-self c =
+    let kept = c.self.invariant.kept in
+    record {
+      kept = record {
+        run_fits = kept.run_fits;
+        each_item = kept.each_item;
+        each_duty = subst (AllByRecursion (IsDuty (shape c.self.inside.config))) (sym c.pass_over.ensures.due)
+            (each-due (IsDuty (shape c.self.inside.config)) c.self.inside.queue.items c.self.inside.duties.items kept.each_duty);
+        answer = kept.answer;
+        lanes = kept.lanes;
+        room = kept.room;
+      };
+      lanes_are = c.self.invariant.lanes_are;
+    }
