@@ -39,7 +39,7 @@ module _ (P : Reply → Type 0) where
       → (config : Shape) (run : ℕ) (kept : KeptLists) (items : List Item) (events : List Event) → IsLegal config run kept events
       → AllByRecursion (IsItem config) items → AllByRecursion (λ (e : Event). P e.happened.reply) events → AllByRecursion P (replies_of config run items events)
   replies_of_legal no_leader nothing_kept nothing streams config run kept items events legal each h =
-      let first = record { config_in_range = legal.config_in_range; sound = legal.sound; follow = tt } in
+      let first : IsLegal config run kept [] = record { config_in_range = legal.config_in_range; sound = legal.sound; follow = tt } in
       replies-good P no_leader nothing_kept nothing streams config run items events each (answers_too config run kept [] events first legal.follow h)
 
 -- so has the reply of an event that has one

@@ -1,5 +1,5 @@
 -- A stream of entries that were found has a spelling, and so has a reply wherever the last answer of its stream stands.
-use Rattle.std.proofs.Common.{◌≡◌, ◌+◌, ◌≤◌, ℕ, List, [], ◌∷◌, ◌++◌, length, map, sym, subst, length-append, arith}
+use Rattle.std.proofs.Common.{◌≤◌, List, [], ◌∷◌, ◌++◌, length, map, length-append, arith}
 use Rattle.std.specs.List.{AllByRecursion, flat_map}
 use Rattle.log_base.specs.Wide.{be2, be4, be8}
 use Rattle.log_base.proofs.Wide.{length-be2, length-be8}
@@ -51,11 +51,17 @@ pub stream_spelled : (stream : Following) (last : Reply) → IsStream HasSpellin
 stream_spelled stream last h spelled answer other =
     let short = short_answer last answer other in
     let room = h.room in
-    let entries = flat_map entry_bytes stream.delivered in
-    ((h.few, found_short stream.delivered h.each, answer),
-    omega (arith, length-be8 stream.from, length-be2 (length stream.delivered), length-append (be8 stream.from) (be2 (length stream.delivered)),
-    length-append (be8 stream.from ++ be2 (length stream.delivered)) entries,
-    length-append (be8 stream.from ++ be2 (length stream.delivered) ++ entries) (reply_bytes last)))
+    let entries = flat_map entry_bytes stream.delivered in (
+      (h.few, found_short stream.delivered h.each, answer),
+      omega (
+        arith,
+        length-be8 stream.from,
+        length-be2 (length stream.delivered),
+        length-append (be8 stream.from) (be2 (length stream.delivered)),
+        length-append (be8 stream.from ++ be2 (length stream.delivered)) entries,
+        length-append (be8 stream.from ++ be2 (length stream.delivered) ++ entries) (reply_bytes last),
+      ),
+    )
 
 -- where the last answer stands changes no spelling
 placed_spelled : (reply : Reply) → HasSpelling (unplaced reply) → HasSpelling reply

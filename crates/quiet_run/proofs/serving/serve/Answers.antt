@@ -27,7 +27,6 @@ use Rattle.quiet_run.proofs.Going.{if_err_with, stopped_before, stopped_with_bef
 use Rattle.quiet_run.proofs.Spelling.{all_replies_spelled, history_is_spelled}
 use Rattle.quiet_run.proofs.StreamSpelling.{all_placed_spelled}
 use Rattle.command_frame.specs.Streams.{unplaced}
-use Rattle.std.proofs.lemmas.List.{length-map}
 use Rattle.quiet_run.proofs.Starts.{begin_with_starts, starts_are_clean}
 use Rattle.quiet_run.proofs.serving.serve.Goals as goal
 
@@ -121,7 +120,7 @@ returns-clause-each g c =
     let over = subst (λ (j : Job). IsOver j c.run_to_end.new.running.events.items c.run_to_end.new.running.bytes c.run_to_end.new.running.schedule.replies new) is c.in_ok-run_to_end.ensures.over in
     let replies_are : map unplaced c.finish.result.replies ≡ replies_of (shape c.args.config) c.args.run c.args.items.now events =
     ap (map unplaced) c.finish.ensures.replies ∙ c.into_replies-replies.ensures ∙ over.replies_are in
-    sym (length-map unplaced c.finish.result.replies) ∙ ap (λ (l : List Reply). length l) replies_are ∙ replies_all (shape c.args.config) c.args.run c.args.items.now events over.over
+    sym (length-map c.finish.result.replies unplaced) ∙ ap (λ (l : List Reply). length l) replies_are ∙ replies_all (shape c.args.config) c.args.run c.args.items.now events over.over
 
 pub returns-clause-nodes : goal.returns-clause-nodes
 returns-clause-nodes g c =

@@ -12,7 +12,7 @@ use Rattle.scalog_run.proofs.answering.answer_items.Goals as goal
 pub bytes-requires-clause-each : goal.bytes-requires-clause-each
 bytes-requires-clause-each g c =
     let replies = c.in_ok-driven.driven.replies in
-    sym (length-map unplaced replies) ∙ ap (λ (l : List Reply). length l) c.in_ok-driven.ensures.replies ∙ c.in_ok-driven.ensures.whole.each
+    sym (length-map replies unplaced) ∙ ap (λ (l : List Reply). length l) c.in_ok-driven.ensures.replies ∙ c.in_ok-driven.ensures.whole.each
 
 -- the output is the report of the history
 pub returns-clause-output : goal.returns-clause-output
