@@ -1,6 +1,8 @@
 -- What opening all disks finds, and how they lie there again where a run may not begin.
-use Rattle.std.proofs.Common.{◌≡◌, ℕ, ◌+◌, ◌≤◌, List, Option, Some, None, sym, ap, ◌∙◌, subst, arith}
+use Rattle.std.proofs.Common.{◌≡◌, ℕ, ◌+◌, ◌≤◌, List, Option, Some, None, refl, sym, ap, ◌∙◌, subst, arith}
+use Rattle.std.specs.List.{AllByRecursion}
 use Rattle.std.specs.Prelude.{IfSome, IsTrue, slice_get}
+use Rattle.history_frame.specs.declared.events.Kept.{Kept}
 use Rattle.log_base.specs.ClusterShape.{Shape}
 use Rattle.node_model.specs.Sound.{payloads_on}
 use Rattle.node_table.specs.Numbering.{disk_of}
@@ -12,8 +14,8 @@ use Rattle.cluster_disks.specs.Found.{AreHeld, AreRecovered, Rejects, kept_in}
 use Rattle.cluster_disks.specs.Lent.{Disks, IsDisk, IsLater, Lying}
 use Rattle.cluster_disks.specs.Nodes.{AreAsRead, IsHeld, medium_on}
 use Rattle.cluster_disks.specs.Opened.{AreAllGivenBack, AreAllOpened, AreFresh, AreLater, AreSmall, IsOpened, KeepsList, Recovers}
-use Rattle.cluster_disks.proofs.KeptLists.{in_here}
-use Rattle.cluster_disks.proofs.Lending.{node_small, place_there, returned_open}
+use Rattle.cluster_disks.proofs.KeptLists.{in_all, in_here}
+use Rattle.cluster_disks.proofs.Lending.{node_small, place_there, place_within, returned_open}
 
 module _ {D : Type 0} (by : Disks D) (config : Shape) where
   -- a node has at most eight journals
@@ -57,6 +59,15 @@ module _ {D : Type 0} (by : Disks D) (config : Shape) where
       subst (λ (l : List (List ℕ)). Recovers by (lain number) l) (sym list)
       (subst (λ (k : ℕ). Recovers by (lain k) has.journal.journal.payloads) (sym has.number_is) (opened.each has.node has.journals has.at has.segment has.journal has.here).list)
 
+  -- and they are the cluster's
+  pub all_on_disks : (lain : ℕ → Lying D) (nodes : List (List (OnDisk D))) → AreAllOpened by config lain nodes → AllByRecursion (λ (one : Kept). IsDisk config one.disk) (kept_in 0 nodes)
+  all_on_disks lain nodes opened =
+      in_all (IsDisk config) 0 nodes (λ n js at segment lt. (
+        n,
+        (let within = place_within nodes n js at in let all = opened.all in omega arith),
+        (segment, (let count = opened.counts n js at in omega arith), omega arith),
+      ))
+
   -- ---- lying there again
 
   no_flight : (journal : Journalled) → journal ≡ loaded journal.payloads → journal.flight ≡ None
@@ -91,7 +102,13 @@ module _ {D : Type 0} (by : Disks D) (config : Shape) where
   pub rejected : (run : ℕ) (fault : OpenStop) (old new : ℕ → Lying D) (nodes : List (List (OnDisk D))) → config.replicas ≤ 8 → AreAllOpened by config old nodes
       → Rejects config run (kept_in 0 nodes) fault → AreHeld by config (payloads_on (kept_in 0 nodes)) new → IsRejected by config run fault old new
   rejected run fault old new nodes few opened rejects held =
-      record { kept = kept_in 0 nodes; found = found_lists old nodes few opened; held = held; rejects = rejects }
+      record {
+        kept = kept_in 0 nodes;
+        on_disks = all_on_disks old nodes opened;
+        found = found_lists old nodes few opened;
+        held = held;
+        rejects = rejects;
+      }
 
   -- ---- no count fell
 

@@ -1,11 +1,12 @@
 -- The payloads that are copied from all disks, in order of disk and offset, are those of each disk.
 use Rattle.std.proofs.Common.{◌≡◌, ◌≢◌, ◌⊎◌, inl, inr, ℕ, zero, suc, ◌+◌, ◌<◌, ◌≤◌, Bool, true, false, cond, ◌==◌, List, [], ◌∷◌, ◌++◌, length, take, Some, refl, sym, ap, ◌∙◌, subst, append_assoc, append-nil, arith, eqb-true, eq-eqb}
 use Rattle.std.specs.Prelude.{slice_get}
-use Rattle.std.specs.List.{count_by}
+use Rattle.std.specs.List.{AllByRecursion, count_by}
 use Rattle.std.proofs.lemmas.List.Recursion.{is_count_by}
 use Rattle.history_frame.specs.declared.events.Kept.{Kept}
 use Rattle.history_frame.specs.Spelling.{DisksRise}
 use Rattle.node_model.specs.Sound.{payloads_on}
+use Rattle.node_model.proofs.Letters.{all_append}
 use Rattle.node_table.specs.Numbering.{disk_of}
 use Rattle.segment_journal.specs.OnDisk.{OnDisk}
 use Rattle.cluster_disks.specs.Found.{kept_from, kept_in, kept_on}
@@ -204,3 +205,28 @@ module _ {D : Type 0} where
           disk_is = rest.disk_is ∙ ap (λ (n : ℕ). disk_of n rest.segment) (let e : suc first + rest.node ≡ first + suc rest.node = omega arith in e);
         }
   ]
+
+-- ---- whose disks they are
+
+on_all : (P : ℕ → Type 0) (disk : ℕ) (payloads : List (List ℕ)) → P disk → AllByRecursion (λ (one : Kept). P one.disk) (kept_on disk payloads)
+on_all P disk [] is = tt
+on_all P disk (payload ∷ payloads) is = (is, on_all P disk payloads is)
+
+from_all : {D : Type 0} (P : ℕ → Type 0) (disk : ℕ) (journals : List (OnDisk D)) → ((segment : ℕ) → segment < length journals → P (disk + segment))
+    → AllByRecursion (λ (one : Kept). P one.disk) (kept_from disk journals)
+from_all P disk [] is = tt
+from_all P disk (journal ∷ journals) is =
+    all_append (λ (one : Kept). P one.disk) (kept_on disk journal.journal.payloads) (kept_from (suc disk) journals)
+    (on_all P disk journal.journal.payloads (subst P (let same : disk + 0 ≡ disk = omega arith in same) (is zero (omega arith))))
+    (from_all P (suc disk) journals (λ segment lt. subst P (let same : disk + suc segment ≡ suc disk + segment = omega arith in same) (is (suc segment) (omega arith))))
+
+pub in_all : {D : Type 0} (P : ℕ → Type 0) (node : ℕ) (nodes : List (List (OnDisk D)))
+    → ((n : ℕ) (js : List (OnDisk D)) → slice_get nodes n ≡ Some js → (segment : ℕ) → segment < length js → P (disk_of (node + n) segment))
+    → AllByRecursion (λ (one : Kept). P one.disk) (kept_in node nodes)
+in_all P node [] is = tt
+in_all P node (journals ∷ nodes) is =
+    all_append (λ (one : Kept). P one.disk) (kept_from (disk_of node 0) journals) (kept_in (suc node) nodes)
+    (from_all P (disk_of node 0) journals
+    (λ segment lt. subst P (let same : disk_of (node + 0) segment ≡ disk_of node 0 + segment = omega arith in same) (is zero journals refl segment lt)))
+    (in_all P (suc node) nodes
+    (λ n js at segment lt. subst P (let same : disk_of (node + suc n) segment ≡ disk_of (suc node + n) segment = omega arith in same) (is (suc n) js at segment lt)))

@@ -1,5 +1,6 @@
 -- Why a cluster is not open, and how its disks lie there then.
 use Rattle.std.specs.Prelude.{ℕ, List}
+use Rattle.std.specs.List.{AllByRecursion}
 use Rattle.history_frame.specs.declared.events.Kept.{Kept}
 use Rattle.log_base.specs.ClusterShape.{Shape}
 use Rattle.node_model.specs.Sound.{payloads_on}
@@ -33,6 +34,7 @@ OpensNot by config old new Memory = AreAlike by config old new
 -- All disks were opened, and a run may not begin with their lists, or memory ran out. They lie there again with these lists.
 pub record IsRejected {D : Type 0} (by : Disks D) (config : Shape) (run : ℕ) (fault : OpenStop) (old new : ℕ → Lying D) : Type 0 where
   pub kept : List Kept
+  pub on_disks : AllByRecursion (λ (one : Kept). IsDisk config one.disk) kept
   pub found : AreRecovered by config (payloads_on kept) old
   pub held : AreHeld by config (payloads_on kept) new
   pub rejects : Rejects config run kept fault

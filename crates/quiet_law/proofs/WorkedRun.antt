@@ -1,8 +1,7 @@
 -- The worked run is legal and quiet, and driven by its items, by computation.
-use Rattle.std.proofs.Common.{◌≡◌, ◌<◌, ◌≤◌, ◌/◌, ◌^◌, ℕ, zero, suc, List, [], ◌∷◌, ◌++◌, length, slice_get, slice_index, replicate, Option, Some, None, refl, subst, arith}
+use Rattle.std.proofs.Common.{◌≡◌, ◌<◌, ◌≤◌, ◌/◌, ◌^◌, ℕ, zero, suc, List, [], ◌∷◌, length, slice_get, slice_index, replicate, Option, Some, None, refl, subst, arith}
 use Rattle.std.specs.List.{AllByRecursion}
-use Rattle.log_base.specs.ClusterShape.{InRange, Shape}
-use Rattle.log_base.specs.declared.numbers.NodeId.{NodeId}
+use Rattle.log_base.specs.ClusterShape.{InRange}
 use Rattle.record_frame.specs.declared.entries.Entry.{Entry}
 use Rattle.record_frame.specs.Entries.{IsEntry, entry_of}
 use Rattle.record_frame.specs.Values.{IsLengths}
@@ -32,12 +31,11 @@ use Rattle.node_model.specs.NodeState.{IsRow, NodeOutcome, NodeState, node_after
 use Rattle.node_model.specs.Nodes.{letter, to_learners, to_orderers}
 use Rattle.node_model.specs.OrdererRow.{learned, on_accept, on_accepted, on_lead, on_least, on_lower, on_prepare, on_promised, on_request, on_settled, on_tick as orderer_tick, on_want, outcome as orderer_outcome}
 use Rattle.node_model.specs.StorageRow.{on_ask, on_decide, on_read, on_submit, on_tick as storage_tick, outcome as storage_outcome}
-use Rattle.command_frame.specs.declared.items.Item.{Item}
 use Rattle.command_frame.specs.Items.{IsItem}
 use Rattle.plain_log.specs.Log.{log_of}
 use Rattle.serial_schedule.specs.Driven.{IsDriven, replies_of}
 use Rattle.quiet_model.specs.Opening.{empty_disks}
-use Rattle.quiet_law.specs.Quiet.{IsQuiet, IsQuietRun}
+use Rattle.quiet_law.specs.Quiet.{IsQuietRun}
 use Rattle.quiet_law.specs.Worked.{entries, entry, one_of_each, restarted, worked_items, worked_run}
 
 -- ---- rows
@@ -167,43 +165,112 @@ entry_fits = record { client = omega arith; number = omega arith; size = omega a
 
 followed : AreNext one_of_each 1 empty_disks [] worked_run
 unfolding storage_outcome gatherer_outcome orderer_outcome on_report gatherer_tick learned on_lead on_prepare on_promised on_lower on_accept on_accepted on_want orderer_tick on_request on_settled on_least on_submit on_ask on_read on_decide storage_tick to_orderers to_learners ask known_after values_after held read report_of submit prepare accept advance merge no_votes cut_wish learn left_wishes nothing_heard raise is_majority no_marks reports
-followed =
-    (next_of refl (omega arith) (record { named = refl; range = tt }) (row_of refl refl refl) (tt) refl,
-    (next_of refl (omega arith) (record { named = refl; range = tt }) (row_of refl refl refl) (tt) refl,
-    (next_of refl (omega arith) (record { named = refl; range = tt }) (row_of refl refl refl) (tt) refl,
-    (next_of refl (omega arith) (record { named = refl; range = tt }) (row_of refl refl refl) (tt) refl,
-    (next_of refl (omega arith) (record { named = refl; range = (prepare_fits, tt) }) (row_of refl refl refl) (sent_of refl refl) refl,
-    (next_of refl (omega arith) (record { named = refl; range = (promised_fits, (omega arith, tt)) }) (row_of refl refl refl) (sent_of refl refl) refl,
-    (next_of refl (omega arith) (record { named = refl; range = (tt, omega arith, omega arith) }) (row_of refl refl refl) (tt) refl,
-    (next_of refl (omega arith) (record { named = refl; range = tt }) (row_of refl refl refl) (tt) refl,
-    (next_of refl (omega arith) (record { named = refl; range = (report_fits 0 (omega arith), (omega arith, omega arith, refl)) }) (row_of refl refl refl) (sent_of refl refl) refl,
-    (next_of refl (omega arith) (record { named = refl; range = (want_fits 0 (omega arith), omega arith) }) (row_of refl refl refl) (sent_of refl refl) refl,
-    (next_of refl (omega arith) (record { named = refl; range = tt }) (row_of refl refl refl) (tt) refl,
-    (next_of refl (omega arith) (record { named = refl; range = (least_fits 0 (omega arith), (omega arith, refl)) }) (row_of refl refl refl) (sent_of refl refl) refl,
-    (next_of refl (omega arith) (record { named = refl; range = tt }) (row_of refl refl refl) (tt) refl,
-    (next_of refl (omega arith) (record { named = refl; range = ((ballot_fits, omega arith, omega arith), omega arith) }) (row_of refl refl refl) (sent_of refl refl) refl,
-    (next_of refl (omega arith) (record { named = refl; range = ((ballot_fits, omega arith, omega arith), omega arith) }) (row_of refl refl refl) (sent_of refl refl) refl,
-    (next_of refl (omega arith) (record { named = refl; range = ((omega arith, omega arith), omega arith) }) (row_of refl refl refl) (sent_of refl refl) refl,
-    (next_of refl (omega arith) (record { named = refl; range = tt }) (row_of refl refl refl) (tt) refl,
-    (next_of refl (omega arith) (record { named = refl; range = (report_fits 0 (omega arith), (omega arith, omega arith, refl)) }) (row_of refl refl refl) (sent_of refl refl) refl,
-    (next_of refl (omega arith) (record { named = refl; range = (want_fits 1 (omega arith), omega arith) }) (row_of refl refl refl) (sent_of refl refl) refl,
-    (next_of refl (omega arith) (record { named = refl; range = omega arith }) (row_of refl refl refl) (tt) refl,
-    (submit_of refl (omega arith) (record { named = refl; range = entry_fits }) (row_of refl refl refl) (tt) refl refl (refl, (refl, (refl, (refl, (refl, (refl, (refl, (refl, (refl, (refl, (refl, (refl, (refl, (refl, (refl, (refl, (refl, (refl, (refl, (refl, tt)))))))))))))))))))),
-    (next_of refl (omega arith) (record { named = refl; range = tt }) (row_of refl refl refl) (tt) refl,
-    (next_of refl (omega arith) (record { named = refl; range = (report_fits 1 (omega arith), (omega arith, omega arith, refl)) }) (row_of refl refl refl) (sent_of refl refl) refl,
-    (next_of refl (omega arith) (record { named = refl; range = (want_fits 1 (omega arith), omega arith) }) (row_of refl refl refl) (sent_of refl refl) refl,
-    (next_of refl (omega arith) (record { named = refl; range = tt }) (row_of refl refl refl) (tt) refl,
-    (next_of refl (omega arith) (record { named = refl; range = (least_fits 1 (omega arith), (omega arith, refl)) }) (row_of refl refl refl) (sent_of refl refl) refl,
-    (next_of refl (omega arith) (record { named = refl; range = tt }) (row_of refl refl refl) (tt) refl,
-    (next_of refl (omega arith) (record { named = refl; range = ((ballot_fits, omega arith, lengths_fit 32 1 (omega arith) (omega arith)), refl) }) (row_of refl refl refl) (sent_of refl refl) refl,
-    (next_of refl (omega arith) (record { named = refl; range = ((ballot_fits, omega arith, omega arith), omega arith) }) (row_of refl refl refl) (sent_of refl refl) refl,
-    (next_of refl (omega arith) (record { named = refl; range = ((omega arith, lengths_fit 32 1 (omega arith) (omega arith)), refl) }) (row_of refl refl refl) (sent_of refl refl) refl,
-    (next_of refl (omega arith) (record { named = refl; range = tt }) (row_of refl refl refl) (tt) refl,
-    (next_of refl (omega arith) (record { named = refl; range = (report_fits 1 (omega arith), (omega arith, omega arith, refl)) }) (row_of refl refl refl) (sent_of refl refl) refl,
-    (next_of refl (omega arith) (record { named = refl; range = (want_fits 2 (omega arith), omega arith) }) (row_of refl refl refl) (sent_of refl refl) refl,
-    (next_of refl (omega arith) (record { named = refl; range = tt }) (row_of refl refl refl) (tt) refl,
-    (next_of refl (omega arith) (record { named = refl; range = tt }) (row_of refl refl refl) (tt) refl,
-    tt)))))))))))))))))))))))))))))))))))
+followed = (
+  next_of refl (omega arith) (record { named = refl; range = tt }) (row_of refl refl refl) (tt) refl,
+  (
+    next_of refl (omega arith) (record { named = refl; range = tt }) (row_of refl refl refl) (tt) refl,
+    (
+      next_of refl (omega arith) (record { named = refl; range = tt }) (row_of refl refl refl) (tt) refl,
+      (
+        next_of refl (omega arith) (record { named = refl; range = tt }) (row_of refl refl refl) (tt) refl,
+        (
+          next_of refl (omega arith) (record { named = refl; range = (prepare_fits, tt) }) (row_of refl refl refl) (sent_of refl refl) refl,
+          (
+            next_of refl (omega arith) (record { named = refl; range = (promised_fits, (omega arith, tt)) }) (row_of refl refl refl) (sent_of refl refl) refl,
+            (
+              next_of refl (omega arith) (record { named = refl; range = (tt, omega arith, omega arith) }) (row_of refl refl refl) (tt) refl,
+              (
+                next_of refl (omega arith) (record { named = refl; range = tt }) (row_of refl refl refl) (tt) refl,
+                (
+                  next_of refl (omega arith) (record { named = refl; range = (report_fits 0 (omega arith), (omega arith, omega arith, refl)) }) (row_of refl refl refl) (sent_of refl refl) refl,
+                  (
+                    next_of refl (omega arith) (record { named = refl; range = (want_fits 0 (omega arith), omega arith) }) (row_of refl refl refl) (sent_of refl refl) refl,
+                    (
+                      next_of refl (omega arith) (record { named = refl; range = tt }) (row_of refl refl refl) (tt) refl,
+                      (
+                        next_of refl (omega arith) (record { named = refl; range = (least_fits 0 (omega arith), (omega arith, refl)) }) (row_of refl refl refl) (sent_of refl refl) refl,
+                        (
+                          next_of refl (omega arith) (record { named = refl; range = tt }) (row_of refl refl refl) (tt) refl,
+                          (
+                            next_of refl (omega arith) (record { named = refl; range = ((ballot_fits, omega arith, omega arith), omega arith) }) (row_of refl refl refl) (sent_of refl refl) refl,
+                            (
+                              next_of refl (omega arith) (record { named = refl; range = ((ballot_fits, omega arith, omega arith), omega arith) }) (row_of refl refl refl) (sent_of refl refl) refl,
+                              (
+                                next_of refl (omega arith) (record { named = refl; range = ((omega arith, omega arith), omega arith) }) (row_of refl refl refl) (sent_of refl refl) refl,
+                                (
+                                  next_of refl (omega arith) (record { named = refl; range = tt }) (row_of refl refl refl) (tt) refl,
+                                  (
+                                    next_of refl (omega arith) (record { named = refl; range = (report_fits 0 (omega arith), (omega arith, omega arith, refl)) }) (row_of refl refl refl) (sent_of refl refl) refl,
+                                    (
+                                      next_of refl (omega arith) (record { named = refl; range = (want_fits 1 (omega arith), omega arith) }) (row_of refl refl refl) (sent_of refl refl) refl,
+                                      (
+                                        next_of refl (omega arith) (record { named = refl; range = omega arith }) (row_of refl refl refl) (tt) refl,
+                                        (
+                                          submit_of refl (omega arith) (record { named = refl; range = entry_fits }) (row_of refl refl refl) (tt) refl refl (refl, (refl, (refl, (refl, (refl, (refl, (refl, (refl, (refl, (refl, (refl, (refl, (refl, (refl, (refl, (refl, (refl, (refl, (refl, (refl, tt)))))))))))))))))))),
+                                          (
+                                            next_of refl (omega arith) (record { named = refl; range = tt }) (row_of refl refl refl) (tt) refl,
+                                            (
+                                              next_of refl (omega arith) (record { named = refl; range = (report_fits 1 (omega arith), (omega arith, omega arith, refl)) }) (row_of refl refl refl) (sent_of refl refl) refl,
+                                              (
+                                                next_of refl (omega arith) (record { named = refl; range = (want_fits 1 (omega arith), omega arith) }) (row_of refl refl refl) (sent_of refl refl) refl,
+                                                (
+                                                  next_of refl (omega arith) (record { named = refl; range = tt }) (row_of refl refl refl) (tt) refl,
+                                                  (
+                                                    next_of refl (omega arith) (record { named = refl; range = (least_fits 1 (omega arith), (omega arith, refl)) }) (row_of refl refl refl) (sent_of refl refl) refl,
+                                                    (
+                                                      next_of refl (omega arith) (record { named = refl; range = tt }) (row_of refl refl refl) (tt) refl,
+                                                      (
+                                                        next_of refl (omega arith) (record { named = refl; range = ((ballot_fits, omega arith, lengths_fit 32 1 (omega arith) (omega arith)), refl) }) (row_of refl refl refl) (sent_of refl refl) refl,
+                                                        (
+                                                          next_of refl (omega arith) (record { named = refl; range = ((ballot_fits, omega arith, omega arith), omega arith) }) (row_of refl refl refl) (sent_of refl refl) refl,
+                                                          (
+                                                            next_of refl (omega arith) (record { named = refl; range = ((omega arith, lengths_fit 32 1 (omega arith) (omega arith)), refl) }) (row_of refl refl refl) (sent_of refl refl) refl,
+                                                            (
+                                                              next_of refl (omega arith) (record { named = refl; range = tt }) (row_of refl refl refl) (tt) refl,
+                                                              (
+                                                                next_of refl (omega arith) (record { named = refl; range = (report_fits 1 (omega arith), (omega arith, omega arith, refl)) }) (row_of refl refl refl) (sent_of refl refl) refl,
+                                                                (
+                                                                  next_of refl (omega arith) (record { named = refl; range = (want_fits 2 (omega arith), omega arith) }) (row_of refl refl refl) (sent_of refl refl) refl,
+                                                                  (
+                                                                    next_of refl (omega arith) (record { named = refl; range = tt }) (row_of refl refl refl) (tt) refl,
+                                                                    (
+                                                                      next_of refl (omega arith) (record { named = refl; range = tt }) (row_of refl refl refl) (tt) refl,
+                                                                      tt,
+                                                                    ),
+                                                                  ),
+                                                                ),
+                                                              ),
+                                                            ),
+                                                          ),
+                                                        ),
+                                                      ),
+                                                    ),
+                                                  ),
+                                                ),
+                                              ),
+                                            ),
+                                          ),
+                                        ),
+                                      ),
+                                    ),
+                                  ),
+                                ),
+                              ),
+                            ),
+                          ),
+                        ),
+                      ),
+                    ),
+                  ),
+                ),
+              ),
+            ),
+          ),
+        ),
+      ),
+    ),
+  ),
+)
 
 in_range : InRange one_of_each
 in_range = record {

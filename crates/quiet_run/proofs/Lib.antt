@@ -17,3 +17,6 @@ pub mod StreamSpelling
 pub mod Spelling
 pub mod Starts
 pub mod Empty
+pub mod NoFlight
+pub mod Slots
+pub mod Unfailing

@@ -22,10 +22,10 @@ rose_some_to last before now some rose = omega arith
 rose_or_last_to : (last before now : ℕ) → min (before + 1) last ≤ now → (before + 1 ≤ now) ⊎ (last ≤ now)
 rose_or_last_to last before now rose = elim (cases_lt now last) [ inl below ↦ inl (omega arith) | inr past ↦ inr past ]
 
-rose_to : (last before now : ℕ) → before + 1 ≤ now → min (before + 1) last ≤ now
+pub rose_to : (last before now : ℕ) → before + 1 ≤ now → min (before + 1) last ≤ now
 rose_to last before now h = omega arith
 
-last_rose_to : (last before now : ℕ) → last ≤ now → min (before + 1) last ≤ now
+pub last_rose_to : (last before now : ℕ) → last ≤ now → min (before + 1) last ≤ now
 last_rose_to last before now h = omega arith
 
 -- ---- no count falls

@@ -5,4 +5,5 @@ pub mod Turns
 pub mod Limits
 pub mod Runs
 pub mod Running
+pub mod Unfailing
 pub mod Tested

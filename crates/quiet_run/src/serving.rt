@@ -8,6 +8,7 @@ ghost use Rattle.history_frame.specs.Spelling.{IsHistory};
 ghost use Rattle.log_base.specs.Shape.{shape};
 ghost use Rattle.node_model.specs.Legal.{IsLawful};
 ghost use Rattle.node_model.specs.Sound.{IsSound, payloads_on};
+ghost use Rattle.plain_log.specs.Log.{log_of};
 ghost use Rattle.reply_frame.specs.Replies.{HasSpelling};
 ghost use Rattle.serial_schedule.specs.Driven.{IsDriven, replies_of};
 ghost use Rattle.command_frame.specs.Streams.{unplaced};
@@ -16,6 +17,7 @@ ghost use Rattle.quiet_run.specs.Running.{CausesGoOn, IsOver, IsUnderWay, StopsW
 ghost use Rattle.quiet_run.specs.Runs.{IsKnownAtMost, IsStoppedRun, IsStoppedWith, IsWithinLimits, KnowsMost};
 ghost use Rattle.quiet_run.specs.Spelled.{AreKept};
 ghost use Rattle.quiet_run.specs.Standing.{StandAfter, job};
+ghost use Rattle.quiet_run.specs.Unfailing.{AreUnfailing, ShowsNone};
 
 use crate::knowing::first_to_know_most;
 use crate::outcomes::{DriveStop, Driven};
@@ -66,6 +68,11 @@ pub fn drive<J: Journal + Drop, P: Places>(
     ensures counts { AllCountOn (map (node_media J.state J.faults J.keeps_synced J.turns) nodes.old.items) (map (node_media J.state J.faults J.keeps_synced J.turns) nodes.new.items) }
     ensures stopped_causes { IfErr result (λ stop. IsStoppedWith (job (shape config) run items.now kept.items) (map (cluster_node J.state) nodes.new.items)
         (map (node_media J.state J.faults J.keeps_synced J.turns) nodes.old.items) (map (node_media J.state J.faults J.keeps_synced J.turns) nodes.new.items) stop) }
+    ensures quiet { IfOk result (λ driven. kept.items ≡ [] → ShowsNone (shape config) driven.history.events
+        → map unplaced driven.replies ≡ log_of (shape config) run items.now) }
+    ensures unfailing { IfOk result (λ driven. kept.items ≡ []
+        → AreUnfailing (shape config) (map (node_media J.state J.faults J.keeps_synced J.turns) nodes.old.items) (map (node_media J.state J.faults J.keeps_synced J.turns) nodes.new.items)
+        → map unplaced driven.replies ≡ log_of (shape config) run items.now) }
 {
     serve(alloc, config, run, items, kept, nodes)
 }

@@ -6,6 +6,7 @@ pub mod Frames
 pub mod Later
 pub mod Left
 pub mod OneReading
+pub mod Quiet
 pub mod Reports
 pub mod SoFar
 pub mod Whole

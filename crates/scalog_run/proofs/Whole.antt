@@ -4,7 +4,9 @@ use Rattle.std.proofs.lemmas.List.{length-map}
 use Rattle.std.proofs.lemmas.Option.{same_Some, slice_get-map, slice_get_within}
 use Rattle.std.specs.Option.{option_map}
 use Rattle.std.specs.Prelude.{IfOk, IfErr, IsErrAnd}
+use Rattle.std.specs.List.{AllByRecursion}
 use Rattle.command_frame.specs.declared.items.Item.{Item}
+use Rattle.command_frame.specs.Items.{IsItem}
 use Rattle.core_step.specs.Standing.{Standing, cluster_node}
 use Rattle.history_frame.specs.declared.events.Event.{Event}
 use Rattle.history_frame.specs.declared.events.History.{History}
@@ -39,6 +41,7 @@ use Rattle.quiet_run.specs.Causes.{AllCountOn, BeginWithStarts, HaveCauses, Star
 use Rattle.quiet_run.specs.Runs.{IsStoppedRun, IsStoppedWith, IsWithinLimits}
 use Rattle.quiet_run.specs.Spelled.{AreKept}
 use Rattle.quiet_run.specs.Standing.{Job, StandAfter, job, node_of}
+use Rattle.quiet_run.proofs.Unfailing.{quiet_replies}
 use Rattle.scalog_run.specs.declared.fault.RunFault.{RunFault}
 use Rattle.scalog_run.specs.Faults.{opening_fault, stopping_fault}
 use Rattle.scalog_run.specs.Histories.{AreLeft, IsStopped, IsUnanswered, IsUnbegun, IsWholeRun}
@@ -105,6 +108,7 @@ pub record IsFinished {D P : Type 0} (by : Disks D) (config : Shape) (run : ℕ)
   pub clean : StartsAreClean config history.events (told_in by before) (told_in by after)
   pub causes : HaveCauses config history.events (told_in by before) (told_in by after)
   pub stand : StandAfter (job config run items kept) history.events (nodes_in after)
+  pub fit : AllByRecursion (IsItem config) items
 
 module _ {D P : Type 0} (by : Disks D) (config : Shape) (range : InRange config) (run : ℕ) (items : List Item) (old new : ℕ → Lying D)
     (before after : List (Standing (OnDisk D) P)) (kept : List Kept) (back : IsBack by config run old new before after kept) where
@@ -146,6 +150,8 @@ module _ {D P : Type 0} (by : Disks D) (config : Shape) (range : InRange config)
         opening = disk_opening by config history.events old new (told_in by before) (told_in by after) over finished.starts finished.clean;
         causes = disk_causes by config history.events old new (told_in by before) (told_in by after) over finished.causes;
         safe = λ founded. safe_from config run (payloads_on history.kept) history.events founded legal;
+        quiet = λ empty none. quiet_replies config run items finished.fit history.events finished.driven none history.kept empty legal
+            (subst (λ (k : List Kept). IsWithinLimits (job config run items k) history.events) back_to finished.within);
       }
 
   -- a run that stopped

@@ -12,6 +12,7 @@ use Rattle.node_model.specs.Durable.{IsFounded, Keeps, durable, in_flight}
 use Rattle.node_model.specs.Legal.{IsLegal}
 use Rattle.node_model.specs.NodeState.{KeptLists}
 use Rattle.node_model.specs.Sound.{IsSound, payloads_on}
+use Rattle.plain_log.specs.Log.{log_of}
 use Rattle.segment_journal.specs.File.{recovered}
 use Rattle.sequence_law.specs.Safe.{IsSafe}
 use Rattle.serial_schedule.specs.Driven.{IsDriven, IsFollowed, replies_of}
@@ -22,6 +23,7 @@ use Rattle.cluster_disks.specs.Lent.{Disks, IsDisk, Lying}
 use Rattle.quiet_run.specs.declared.outcomes.DriveStop.{DriveStop}
 use Rattle.quiet_run.specs.Runs.{IsWithinLimits, StopsAt}
 use Rattle.quiet_run.specs.Standing.{Job, job}
+use Rattle.quiet_run.specs.Unfailing.{ShowsNone}
 use Rattle.scalog_run.specs.declared.fault.RunFault.{RunFault}
 use Rattle.scalog_run.specs.declared.report.Report.{Report}
 use Rattle.scalog_run.specs.Causes.{HasCauses, IsOpening}
@@ -51,7 +53,8 @@ pub record AreOver {D : Type 0} (by : Disks D) (job : Job) (events : List Event)
 -- ---- a run that came to its end
 
 -- The history of a run that came to its end: no limit was passed on the way, each item has its reply, what it shows of its disks
--- has its causes, and from founded lists it is safe.
+-- has its causes, and from founded lists it is safe. Where the disks kept nothing and it shows no failure of them, the replies
+-- are those of the log of one thread.
 pub record IsWholeRun {D : Type 0} (by : Disks D) (config : Shape) (run : ℕ) (items : List Item) (history : History) (old new : ℕ → Lying D) : Type 0 where
   pub config_is : shape history.config ≡ config
   pub run_is : history.run ≡ run
@@ -64,6 +67,7 @@ pub record IsWholeRun {D : Type 0} (by : Disks D) (config : Shape) (run : ℕ) (
   pub opening : IsOpening by config history.events old new
   pub causes : HasCauses by config history.events old new
   pub safe : IsFounded config run (payloads_on history.kept) → IsSafe config (payloads_on history.kept) history.events
+  pub quiet : history.kept ≡ [] → ShowsNone config history.events → replies_of config run items history.events ≡ log_of config run items
 
 -- ---- a run that did not
 

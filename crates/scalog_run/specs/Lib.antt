@@ -5,6 +5,7 @@ pub mod Histories
 pub mod Input
 pub mod Making
 pub mod Output
+pub mod Quiet
 pub mod Report
 pub mod Run
 pub mod Steps

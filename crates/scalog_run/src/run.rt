@@ -15,6 +15,7 @@ ghost use Rattle.cluster_disks.specs.Opened.{AreLater};
 ghost use Rattle.scalog_run.specs.Checking.{Checked, sourcing};
 ghost use Rattle.scalog_run.specs.Making.{SendsMade};
 ghost use Rattle.scalog_run.specs.Output.{Sends, bad_words, fault_spelling, sinking};
+ghost use Rattle.scalog_run.specs.Quiet.{AnswersAsLog};
 ghost use Rattle.scalog_run.specs.Report.{report_for};
 ghost use Rattle.scalog_run.specs.Run.{ComesTo, Ran, world};
 ghost use Rattle.scalog_run.specs.Words.{IsUnheard, IsUnused};
@@ -62,6 +63,11 @@ where
         (world (S.left source.old) (S.faults source.old) (lain Q.disk_at Q.disk_faults Q.faults rack.old))
         (world (S.left source.new) (S.faults source.new) (lain Q.disk_at Q.disk_faults Q.faults rack.new))
         (sinking (K.taken sink.old) (K.faults sink.old)) (sinking (K.taken sink.new) (K.faults sink.new)) result }
+    ensures quiet { (options : Options) → Spells (map string_bytes words.now) (Run options) → IsOffered (Run options)
+        → AnswersAsLog (disks Q.D.reads Q.D.may_leave Q.D.keeps_synced Q.D.faults) (shape options.config) options.run (report_for options.brief)
+        (world (S.left source.old) (S.faults source.old) (lain Q.disk_at Q.disk_faults Q.faults rack.old))
+        (world (S.left source.new) (S.faults source.new) (lain Q.disk_at Q.disk_faults Q.faults rack.new))
+        (sinking (K.taken sink.old) (K.faults sink.old)) (sinking (K.taken sink.new) (K.faults sink.new)) result }
     ensures check { Spells (map string_bytes words.now) Check
         → Checked (sourcing (S.left source.old) (S.faults source.old)) (sourcing (S.left source.new) (S.faults source.new))
         (sinking (K.taken sink.old) (K.faults sink.old)) (sinking (K.taken sink.new) (K.faults sink.new)) result }
@@ -106,6 +112,10 @@ where
     requires run { options.now.run ≤ 1000000 }
     requires folder { options.now.folder ≡ None }
     ensures run { Ran (disks Q.D.reads Q.D.may_leave Q.D.keeps_synced Q.D.faults) (shape options.now.config) options.now.run (report_for options.now.brief)
+        (world (S.left source.old) (S.faults source.old) (lain Q.disk_at Q.disk_faults Q.faults rack.old))
+        (world (S.left source.new) (S.faults source.new) (lain Q.disk_at Q.disk_faults Q.faults rack.new))
+        (sinking (K.taken sink.old) (K.faults sink.old)) (sinking (K.taken sink.new) (K.faults sink.new)) result }
+    ensures quiet { AnswersAsLog (disks Q.D.reads Q.D.may_leave Q.D.keeps_synced Q.D.faults) (shape options.now.config) options.now.run (report_for options.now.brief)
         (world (S.left source.old) (S.faults source.old) (lain Q.disk_at Q.disk_faults Q.faults rack.old))
         (world (S.left source.new) (S.faults source.new) (lain Q.disk_at Q.disk_faults Q.faults rack.new))
         (sinking (K.taken sink.old) (K.faults sink.old)) (sinking (K.taken sink.new) (K.faults sink.new)) result }

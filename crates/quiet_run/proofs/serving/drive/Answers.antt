@@ -8,6 +8,7 @@ use Rattle.quiet_run.specs.Causes.{AllCountOn, HaveCauses, StartsAreClean, node_
 use Rattle.quiet_run.specs.Runs.{IsStoppedRun, IsStoppedWith}
 use Rattle.quiet_run.specs.Standing.{StandAfter, job}
 use Rattle.quiet_run.proofs.Ending.{lent_whole}
+use Rattle.quiet_run.proofs.Unfailing.{quiet_result, unfailing_result}
 use Rattle.quiet_run.proofs.serving.drive.Goals as goal
 
 pub serve-requires-clause-nodes : goal.serve-requires-clause-nodes
@@ -63,3 +64,14 @@ returns-clause-stopped_causes g c =
     subst (λ (x : List (Standing g.row.J.Denot g.row.P.Denot) × List (Standing g.row.J.Denot g.row.P.Denot)). IfErr c.serve.result (λ (stop : DriveStop).
     IsStoppedWith (job (shape c.args.config) c.args.run c.args.items.now c.args.kept.items) (map (cluster_node g.J.Journal.state) x.1) (map media x.0) (map media x.1) stop))
     (λ i. (c.deref_mut.ensures.value i, sym whole i)) c.serve.ensures.stopped_causes
+
+-- a run over empty disks in which no disk failed
+pub returns-clause-quiet : goal.returns-clause-quiet
+returns-clause-quiet g c =
+    quiet_result c.args.config c.args.run c.args.items.now c.requires.items c.args.kept.items c.serve.result
+    c.serve.ensures.given c.serve.ensures.lawful c.serve.ensures.driven c.serve.ensures.replies c.serve.ensures.limits
+
+pub returns-clause-unfailing : goal.returns-clause-unfailing
+returns-clause-unfailing g c =
+    unfailing_result c.args.config c.args.run c.args.items.now c.requires.items c.args.kept.items c.serve.result
+    c.serve.ensures.given c.serve.ensures.lawful c.serve.ensures.driven c.serve.ensures.replies c.serve.ensures.limits _ _ (returns-clause-causes g c)

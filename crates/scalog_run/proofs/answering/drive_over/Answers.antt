@@ -144,6 +144,7 @@ returns-clause-whole g c =
       clean = driven.opened;
       causes = driven.causes;
       stand = driven.nodes;
+      fit = c.requires.items;
     } in
     whole_run by (shape config) config.in_range run items old new before after kept back history finished
 

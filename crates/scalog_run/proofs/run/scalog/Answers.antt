@@ -11,6 +11,7 @@ use Rattle.scalog_run.specs.Making.{SendsMade}
 use Rattle.scalog_run.specs.Output.{Sinking, sinking}
 use Rattle.scalog_run.specs.Report.{report_for}
 use Rattle.scalog_run.specs.Run.{Ran, world}
+use Rattle.scalog_run.proofs.Quiet.{answers_as_log}
 use Rattle.scalog_run.proofs.run.scalog.Goals as goal
 
 -- the words have one list of options
@@ -78,3 +79,15 @@ returns-in-Make-clause-make g c options seed count spells =
     let words = map string_bytes c.args.words.now in
     let served = subst (λ (o : Offered). Spells words (command_of o)) c.in-Make.is c.in-Ok.ensures.ok.0 in
     one_input words c.in-Make.options options c.in-Make.seed c.in-Make.count seed count _ _ _ served spells c.make_items.ensures
+
+-- a run in which nothing fails
+pub returns-in-Err-NoCommand-clause-quiet : goal.returns-in-Err-NoCommand-clause-quiet
+returns-in-Err-NoCommand-clause-quiet g c options spells offered = absurd (c.in-Err-NoCommand.ensures.none (cc) (Run options, spells, offered))
+
+pub returns-in-Err-Memory-clause-quiet : goal.returns-in-Err-Memory-clause-quiet
+returns-in-Err-Memory-clause-quiet g c options spells offered =
+    absurd (no_folder options.folder offered (c.in-Err-Memory.ensures.memory (cc) (Run options) spells))
+
+pub returns-in-Run-clause-quiet : goal.returns-in-Run-clause-quiet
+returns-in-Run-clause-quiet g c options spells offered =
+    answers_as_log _ (shape options.config) options.config.in_range options.run (report_for options.brief) _ _ _ _ _ (returns-in-Run-clause-command g c options spells offered)
