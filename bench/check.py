@@ -21,7 +21,7 @@ def main():
     with tempfile.TemporaryDirectory() as folder:
         items, output, verdict = (os.path.join(folder, name) for name in ("items", "output", "verdict"))
         with open(items, "wb") as out:
-            out.write(generated(COUNT))
+            out.write(generated(scalog, COUNT))
         timed([scalog, "run"], items, output)
         wall, peak = best_of([scalog, "check"], output, verdict)
         wall_sum, _ = best_of(["sha256sum"], output, os.devnull)

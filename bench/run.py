@@ -12,9 +12,8 @@ CRATE = os.path.join(TOP, "crates", "scalog")
 COUNTS = (200, 2_000)
 SEED = 7
 ROUNDS = 5
-REPLICAS, SHARDS = 2, 2
 EVENT = 0x62
-WIDE = (3, 4, 2_000)
+WIDE = (3, 4, 200)
 
 
 def frame(kind, body):
@@ -25,20 +24,9 @@ def target(lane, shard, replica):
     return bytes([lane]) + shard.to_bytes(2, "big") + bytes([replica])
 
 
-def generated(count):
-    """An addition of each shard, then made items. A subscription is read at its first position, until they are served."""
-    out = [frame(5, bytes([0]) + shard.to_bytes(2, "big")) for shard in range(SHARDS)]
-    x = SEED
-    for i in range(count):
-        x = (x * 6364136223846793005 + 1442695040888963407) % 2**64
-        y = x >> 33
-        where = target(y // 8 % 4, y // 32 % SHARDS, y // 256 % REPLICAS)
-        if y % 8 < 6:
-            record = bytes(97 + (i + j) % 26 for j in range(1 + y // 1024 % 24))
-            out.append(frame(1, where + record))
-        else:
-            out.append(frame(2, where + (y // 8 % (i + 1)).to_bytes(8, "big")))
-    return b"".join(out)
+def generated(scalog, count):
+    """The items that the program makes from the seed."""
+    return subprocess.run([scalog, "make", str(SEED), str(count)], stdout=subprocess.PIPE, check=True).stdout
 
 
 def appends(replicas, shards, count):
@@ -101,7 +89,7 @@ def main():
     print(f"{'items':>7} {'events':>8} {'bytes':>10} {'events/s':>10} {'MB/s':>7} {'us/event':>9} {'peak KB':>8} {'x sha256sum':>12}")
     with tempfile.TemporaryDirectory() as folder:
         for count in COUNTS:
-            events, size, best, best_sum, peak = measured([scalog, "run"], folder, generated(count))
+            events, size, best, best_sum, peak = measured([scalog, "run"], folder, generated(scalog, count))
             per_event.append(best / events)
             print(
                 f"{count:>7} {events:>8} {size:>10} {events / best:>10.0f} {size / best / 1e6:>7.2f}"
@@ -109,10 +97,10 @@ def main():
             )
         replicas, shards, count = WIDE
         words = ["run", "--replicas", str(replicas), "--shards", str(shards)]
-        events, size, best, _, peak = measured([scalog] + words, folder, appends(replicas, shards, count // 10))
+        events, size, best, _, peak = measured([scalog] + words, folder, appends(replicas, shards, count))
     print(f"time per event, {COUNTS[-1]} items against {COUNTS[0]}: {per_event[-1] / per_event[0]:.2f}")
     print(
-        f"{count // 10} appends on {replicas} replicas of {shards} shards: {best:.3f} s,"
+        f"{count} appends on {replicas} replicas of {shards} shards: {best:.3f} s,"
         f" {best / events * 1e6:.2f} us an event, peak {peak} KB"
     )
 
