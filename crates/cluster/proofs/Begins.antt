@@ -1,0 +1,52 @@
+-- The passes that a cluster is begun with are its passes.
+use Rattle.std.proofs.Common.{◌≡◌, ◌<◌, ◌≤◌, ℕ, ◌+◌, List, [], map, slice_get, Some, sym, ap, ◌∙◌, subst, ⊎_elim, arith}
+use Rattle.std.proofs.lemmas.Bool.{cases_lt}
+use Rattle.std.proofs.lemmas.Option.{slice_get_within}
+use Rattle.atomic_table.specs.Seated.{TableId}
+use Rattle.atomic_table.specs.declared.shared.Seat.{Seat}
+use Rattle.history_frame.specs.declared.events.Happened.{Happened}
+use Rattle.history_frame.specs.declared.inputs.Input.{Input}
+use Rattle.log_base.specs.ClusterShape.{Shape}
+use Rattle.log_base.specs.Machines.{Event, IsLegal}
+use Rattle.log_base.specs.declared.numbers.NodeId.{NodeId}
+use Rattle.node_model.specs.Machine.{ClusterNode, node_meanings}
+use Rattle.node_model.specs.NodeState.{KeptLists}
+use Rattle.tied_cells.specs.Opening.{ArePasses, IsNew, asked_by, owns_from}
+use Rattle.tied_cells.specs.declared.account.Account.{Account}
+use Rattle.tied_cells.specs.declared.board.Deal.{Deal}
+use Rattle.tied_cells.specs.declared.board.Own.{Own}
+use Rattle.tied_cells.specs.declared.board.Stored.{Stored}
+use Rattle.tied_cells.specs.declared.board.View.{View}
+use Rattle.cluster.specs.Clusters.{AreFirst, IsPassOf}
+use Rattle.cluster.specs.Opening.{AreHandedOut, opening, opening_room}
+use Rattle.cluster.specs.Submitting.{SubmitsAlone}
+use Rattle.cluster.proofs.Openings.{opening_submits}
+use Rattle.cluster.proofs.Submits.{alone_none}
+
+module _ {A : Type 0} (config : Shape) (deal : Deal ClusterNode) (table : TableId) (room : ℕ) (passes : List (Seat (Stored A Happened) (View ClusterNode Happened) × Account)) where
+  pub handed_out : (asked : List (NodeId × Input)) → asked ≡ opening config
+      → ((log : List (Event Happened)) × (asked ≡ map (asked_by node_meanings) log) × IsLegal node_meanings deal.starts log × ArePasses table deal (owns_from 0 log) opening_room room passes)
+      → AreHandedOut config deal table room passes
+  handed_out asked is made = record { log = made.0; asked = sym made.1 ∙ is; legal = made.2; passes_are = made.3 }
+
+  module _ (run : ℕ) (kept : KeptLists) (first : AreFirst config kept deal.starts) where
+    new_is : (number k : ℕ) (own : List (Own Happened)) (bytes : ℕ) (pass : Seat (Stored A Happened) (View ClusterNode Happened) × Account) → pass.0.table_id ≡ table → pass.0.me.0.number ≡ number
+        → IsNew deal k own bytes room pass.0.me pass.1 → ((n : ℕ) → SubmitsAlone run n own) → IsPassOf config run kept table number pass.0
+    new_is number k own bytes pass here number_is new alone = record {
+      table_is = here;
+      number_is = number_is;
+      first = subst (λ (d : Deal ClusterNode). AreFirst config kept d.starts) (sym new.deal_is) first;
+      free = (new.turn_is, new.slots_are);
+      submits = subst (SubmitsAlone run number) (sym new.own_is) (alone number);
+    }
+
+    pub passes_begin : AreHandedOut config deal table room passes → (k : ℕ) (pass : Seat (Stored A Happened) (View ClusterNode Happened) × Account) → slice_get passes k ≡ Some pass
+        → pass.0.me.0.number ≡ pass.1.number → IsPassOf config run kept table k pass.0
+    passes_begin handed k pass there number_is =
+        let here = handed.passes_are.tables k pass there in
+        let size = handed.passes_are.as_many in let within = slice_get_within passes k pass there in
+        ⊎_elim
+        (λ (before : k + 1 < deal.passes). new_is k k [] 0 pass here (number_is ∙ ap (λ (a : Account). a.number) (handed.passes_are.others k pass there before).account_is) (handed.passes_are.others k pass there before) (λ n. alone_none run n))
+        (λ (last : deal.passes ≤ k + 1). let at : k + 1 ≡ deal.passes = omega arith in
+        new_is k k (owns_from 0 handed.log) opening_room pass here (number_is ∙ ap (λ (a : Account). a.number) (handed.passes_are.last k pass there at).account_is) (handed.passes_are.last k pass there at) (λ n. opening_submits config run n handed.log handed.asked))
+        (cases_lt (k + 1) deal.passes)

@@ -1,0 +1,16 @@
+pub mod Begins
+pub mod Brief
+pub mod Choosing
+pub mod Closed
+pub mod Empty
+pub mod Giving
+pub mod GoingOut
+pub mod Holding
+pub mod Lawful
+pub mod Making
+pub mod Merged
+pub mod Openings
+pub mod Passing
+pub mod Places
+pub mod Sizes
+pub mod Submits

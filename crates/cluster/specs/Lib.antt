@@ -1,0 +1,9 @@
+pub mod Clusters
+pub mod Events
+pub mod History
+pub mod Opening
+pub mod Posting
+pub mod Sizing
+pub mod Stepping
+pub mod Submitting
+pub mod Tested
