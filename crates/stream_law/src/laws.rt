@@ -1,0 +1,20 @@
+//! The laws. Each function does nothing: its contract is the law.
+
+ghost use Rattle.std.specs.Prelude.{ℕ, List};
+ghost use Rattle.std.specs.List.{AllByRecursion};
+ghost use Rattle.command_frame.specs.declared.items.Item.{Item};
+ghost use Rattle.history_frame.specs.declared.events.Event.{Event};
+ghost use Rattle.log_base.specs.ClusterShape.{Shape};
+ghost use Rattle.node_model.specs.Legal.{IsLegal};
+ghost use Rattle.node_model.specs.NodeState.{KeptLists};
+ghost use Rattle.serial_schedule.specs.Driven.{IsFollowed, replies_of};
+ghost use Rattle.stream_law.specs.Streams.{EachInStream, WasFound};
+
+/// The entry at each index of a stream was the answer to a read of its position: the stream's first
+/// position and the index.
+pub fn streams_were_found()
+    ensures { (config : Shape) (run : ℕ) (kept : KeptLists) (items : List Item) (events : List Event)
+        → IsLegal config run kept events
+        → IsFollowed config run items events
+        → AllByRecursion (EachInStream (WasFound events)) (replies_of config run items events) }
+{}

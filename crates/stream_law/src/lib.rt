@@ -1,0 +1,10 @@
+//! The law of streams, over every legal history that follows the serial schedule of items: a stream from a
+//! position on has the entries of that position, the next and so on, none left out and none twice, as they
+//! were found by reads of these positions.
+//!
+//! `specs/` says what a stream says of a history. The functions do nothing: their contracts are the laws.
+#![tactic(auto)]
+
+mod laws;
+
+pub use laws::streams_were_found;
