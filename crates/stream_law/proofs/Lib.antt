@@ -1,2 +1,3 @@
 pub mod Streaming
 pub mod Finding
+pub mod Standing

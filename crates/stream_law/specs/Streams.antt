@@ -1,9 +1,13 @@
--- What a stream of entries says of a history.
-use Rattle.std.specs.Prelude.{◌≡◌, ℕ, ◌+◌, List, Some, slice_get}
+-- What a stream of entries says of a history, and of the one sequence.
+use Rattle.std.specs.Prelude.{◌≡◌, ℕ, ◌+◌, List, drop, length, map, take, Option, Some, slice_get}
+use Rattle.std.specs.List.{AllByRecursion}
 use Rattle.history_frame.specs.declared.events.Event.{Event}
+use Rattle.log_base.specs.ClusterShape.{Shape}
 use Rattle.record_frame.specs.declared.entries.Entry.{Entry}
 use Rattle.reply_frame.specs.declared.replies.Reply.{Reply, Found, Stream'}
-use Rattle.sequence_law.specs.Answers.{IsAfter, reads}
+use Rattle.node_model.specs.NodeState.{KeptLists}
+use Rattle.node_model.specs.Sequence.{sequence}
+use Rattle.sequence_law.specs.Answers.{IsAfter, IsRead, reads}
 
 -- ---- entries at positions
 
@@ -26,3 +30,20 @@ pub record WasFound (events : List Event) (position : ℕ) (entry : Entry) : Typ
   pub client : ℕ
   pub asked : event.happened.input ≡ reads client position
   pub told : event.happened.reply ≡ Found (record { 0 = position }) entry
+
+-- ---- the one sequence
+
+-- And it stands in the sequence at that position, which was at or above the mark that the replica knew when it answered.
+pub record IsOfSequence (config : Shape) (kept : KeptLists) (events : List Event) (position : ℕ) (entry : Entry) : Type 0 where
+  pub found : WasFound events position entry
+  pub agrees : IsRead config kept events found.before found.event position entry
+
+-- The entries of a stream are a piece of a sequence of entries: those that stand there from the stream's first position on.
+abbrev pub IsPiece : List (Option Entry) → Reply → Type 0
+IsPiece places (Stream' from entries at last) = map (λ (entry : Entry). Some entry) entries ≡ take (length entries) (drop from.0 places)
+IsPiece places reply = Unit {0}
+
+-- the streams of some replies agree with the one sequence
+pub record StreamsAgree (config : Shape) (kept : KeptLists) (events : List Event) (replies : List Reply) : Type 0 where
+  pub each : AllByRecursion (EachInStream (IsOfSequence config kept events)) replies
+  pub pieces : AllByRecursion (IsPiece (sequence config kept events)) replies

@@ -5,10 +5,11 @@ ghost use Rattle.std.specs.List.{AllByRecursion};
 ghost use Rattle.command_frame.specs.declared.items.Item.{Item};
 ghost use Rattle.history_frame.specs.declared.events.Event.{Event};
 ghost use Rattle.log_base.specs.ClusterShape.{Shape};
+ghost use Rattle.node_model.specs.Durable.{IsFounded};
 ghost use Rattle.node_model.specs.Legal.{IsLegal};
 ghost use Rattle.node_model.specs.NodeState.{KeptLists};
 ghost use Rattle.serial_schedule.specs.Driven.{IsFollowed, replies_of};
-ghost use Rattle.stream_law.specs.Streams.{EachInStream, WasFound};
+ghost use Rattle.stream_law.specs.Streams.{EachInStream, StreamsAgree, WasFound};
 
 /// The entry at each index of a stream was the answer to a read of its position: the stream's first
 /// position and the index.
@@ -17,4 +18,15 @@ pub fn streams_were_found()
         → IsLegal config run kept events
         → IsFollowed config run items events
         → AllByRecursion (EachInStream (WasFound events)) (replies_of config run items events) }
+{}
+
+/// The entry at each index of a stream stands in the sequence of the whole history at its position, which
+/// was at or above the mark that the replica knew when it answered. So the entries are a piece of the
+/// sequence, from the stream's first position on.
+pub fn streams_agree()
+    ensures { (config : Shape) (run : ℕ) (kept : KeptLists) (items : List Item) (events : List Event)
+        → IsFounded config run kept
+        → IsLegal config run kept events
+        → IsFollowed config run items events
+        → StreamsAgree config kept events (replies_of config run items events) }
 {}

@@ -1,10 +1,10 @@
 //! The law of streams, over every legal history that follows the serial schedule of items: a stream from a
 //! position on has the entries of that position, the next and so on, none left out and none twice, as they
-//! were found by reads of these positions.
+//! were found by reads of these positions and as they stand in the one sequence.
 //!
 //! `specs/` says what a stream says of a history. The functions do nothing: their contracts are the laws.
 #![tactic(auto)]
 
 mod laws;
 
-pub use laws::streams_were_found;
+pub use laws::{streams_agree, streams_were_found};
