@@ -7,7 +7,7 @@ use Rattle.log_base.specs.declared.numbers.Client.{Client}
 use Rattle.log_base.specs.declared.numbers.Position.{Position}
 use Rattle.record_frame.specs.declared.entries.Entry.{Entry}
 use Rattle.command_frame.specs.declared.items.Item.{Item}
-use Rattle.reply_frame.specs.declared.replies.Reply.{Reply, Found as FoundAt}
+use Rattle.reply_frame.specs.declared.replies.Reply.{Found as FoundAt}
 use Rattle.history_frame.specs.declared.events.Event.{Event}
 use Rattle.history_frame.specs.declared.inputs.Call.TheVariants.{Read}
 use Rattle.history_frame.specs.declared.inputs.Input.TheVariants.{Call as ACall}
