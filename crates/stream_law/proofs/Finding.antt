@@ -21,6 +21,7 @@ use Rattle.sequence_law.proofs.Answering.{IsSaid, called}
 use Rattle.sequence_law.proofs.Moments.{legal_push}
 use Rattle.sequence_law.proofs.Replies.{read_answer}
 use Rattle.serial_schedule.specs.Driven.{IsFollowed, replies_of}
+use Rattle.serial_schedule.specs.Keeping.{IsSingle}
 use Rattle.serial_schedule.proofs.Singles.{row_reply}
 use Rattle.stream_law.specs.Streams.{EachInStream, WasFound}
 use Rattle.stream_law.proofs.Streaming.{AreAnswers, streams-good}
@@ -59,6 +60,12 @@ module _ (config : Shape) (run : ℕ) (kept : KeptLists) where
     ),
     answers-from (before ++ e ∷ []) events all (append_assoc before (e ∷ []) events ∙ parts) (legal_push config run kept before e now next.0) next.1,
   )
+
+  -- no node answers with a stream
+  pub singles : (before events : List Event) → AreNext config run kept before events → AllByRecursion (λ (e : Event). IsSingle e.happened.reply) events
+  singles before [] next = tt
+  singles before (e ∷ events) next =
+      (row_reply config e.node.0 (node_after config kept before e.node.0) e.happened next.0.row, singles (before ++ e ∷ []) events next.1)
 
   pub streams_found : (items : List Item) (events : List Event) → IsLegal config run kept events → IsFollowed config run items events
       → AllByRecursion (EachInStream (WasFound events)) (replies_of config run items events)

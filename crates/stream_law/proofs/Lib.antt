@@ -1,3 +1,5 @@
 pub mod Streaming
 pub mod Finding
 pub mod Standing
+pub mod Going
+pub mod Serving

@@ -57,11 +57,11 @@ each-push P from (y ∷ xs) x h last (suc i) entry at =
 
 -- duties without a call
 module _ (Q : Duty → Type 0) (signals : (duty : Duty) → calls_in (duty ∷ []) ≡ 0 → Q duty) where
-  no_calls : (duties : List Duty) → calls_in duties ≡ 0 → AllByRecursion Q duties
+  pub no_calls : (duties : List Duty) → calls_in duties ≡ 0 → AllByRecursion Q duties
   no_calls [] none = tt
   no_calls (duty ∷ duties) none = (signals duty (omega arith), no_calls duties (omega arith))
 
-idle_calls : (duties : List Duty) → (length duties == 0) ≡ true → calls_in duties ≡ 0
+pub idle_calls : (duties : List Duty) → (length duties == 0) ≡ true → calls_in duties ≡ 0
 idle_calls [] idle = refl
 idle_calls (duty ∷ duties) idle = let none = eqb-true (suc (length duties)) 0 idle in absurd (omega arith)
 
