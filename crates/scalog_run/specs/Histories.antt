@@ -16,6 +16,7 @@ use Rattle.plain_log.specs.Log.{log_of}
 use Rattle.segment_journal.specs.File.{recovered}
 use Rattle.sequence_law.specs.Safe.{IsSafe}
 use Rattle.serial_schedule.specs.Driven.{IsDriven, IsFollowed, replies_of}
+use Rattle.stream_law.specs.Streams.{StreamsAgree}
 use Rattle.cluster_disks.specs.declared.stop.OpenStop.{OpenStop}
 use Rattle.cluster_disks.specs.Failing.{IsRejected, OpensNot}
 use Rattle.cluster_disks.specs.Found.{AreRecovered, bytes_in, kept_limit}
@@ -53,8 +54,8 @@ pub record AreOver {D : Type 0} (by : Disks D) (job : Job) (events : List Event)
 -- ---- a run that came to its end
 
 -- The history of a run that came to its end: no limit was passed on the way, each item has its reply, what it shows of its disks
--- has its causes, and from founded lists it is safe. Where the disks kept nothing and it shows no failure of them, the replies
--- are those of the log of one thread.
+-- has its causes, and from founded lists it is safe and its streams agree with the one sequence. Where the disks kept nothing and
+-- it shows no failure of them, the replies are those of the log of one thread.
 pub record IsWholeRun {D : Type 0} (by : Disks D) (config : Shape) (run : ℕ) (items : List Item) (history : History) (old new : ℕ → Lying D) : Type 0 where
   pub config_is : shape history.config ≡ config
   pub run_is : history.run ≡ run
@@ -67,6 +68,8 @@ pub record IsWholeRun {D : Type 0} (by : Disks D) (config : Shape) (run : ℕ) (
   pub opening : IsOpening by config history.events old new
   pub causes : HasCauses by config history.events old new
   pub safe : IsFounded config run (payloads_on history.kept) → IsSafe config (payloads_on history.kept) history.events
+  pub streams : IsFounded config run (payloads_on history.kept)
+      → StreamsAgree config (payloads_on history.kept) history.events (replies_of config run items history.events)
   pub quiet : history.kept ≡ [] → ShowsNone config history.events → replies_of config run items history.events ≡ log_of config run items
 
 -- ---- a run that did not
