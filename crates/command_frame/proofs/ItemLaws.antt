@@ -1,5 +1,5 @@
 -- What is read from a body is spelled so, and what is spelled is read again.
-use Rattle.std.proofs.Common.{◌≡◌, ℕ, ◌<◌, ◌≤◌, ◌^◌, Bool, true, false, ◌&&◌, List, [], ◌∷◌, ◌++◌, length, length-append, drop, get_or, ltb, leb, eqb, cond, Option, Some, None, refl, sym, ap, ◌∙◌, subst, append-nil, arith}
+use Rattle.std.proofs.Common.{◌≡◌, ◌≢◌, ℕ, ◌<◌, ◌≤◌, ◌^◌, Bool, true, false, ◌&&◌, List, [], ◌∷◌, ◌++◌, length, length-append, drop, get_or, ltb, leb, eqb, cond, Option, Some, None, refl, sym, ap, ◌∙◌, subst, append-nil, arith}
 use Rattle.std.proofs.lemmas.Bool.{and_parts, and_from, ltb-true, leb-true, eqb-true, lt-ltb, le-leb, eq-eqb, cond-true}
 use Rattle.std.proofs.lemmas.Option.{cond_some}
 use Rattle.std.proofs.lemmas.List.{length-drop, take_all}
@@ -8,7 +8,7 @@ use Rattle.log_base.specs.ClusterShape.{Shape, InRange}
 use Rattle.log_base.specs.Wide.{IsBytes, be2, be8, number2, number8}
 use Rattle.log_base.proofs.Wide.{length-be8, number2-be2, number8-be8, be2-number2, be8-number8, number8-lt, IsBytes-drop}
 use Rattle.command_frame.specs.declared.items.Item.{Item}
-use Rattle.command_frame.specs.declared.items.Item.TheVariants.{Append, Read, Subscribe, Trim, Add, Finalise, Ask}
+use Rattle.command_frame.specs.declared.items.Item.TheVariants.{Append, Read, Subscribe, Trim, Add, Finalise, Ask, Fault}
 use Rattle.command_frame.specs.Items.{item_kind, item_body, IsItem, Spells}
 use Rattle.command_frame.specs.Reading.{names_shard, names_replica, append_of, read_of, subscribe_of, trim_of, add_of, finalise_of, ask_of, item_of}
 
@@ -278,13 +278,15 @@ ask_again : (lane : ℕ) → lane < 64 → ask_of (lane ∷ []) ≡ Some (Ask la
 unfolding ask_of
 ask_again lane l = cond-true (eqb 1 1 && ltb lane 64) _ _ (and_from _ _ (eq-eqb 1 1 refl) (lt-ltb lane 64 l))
 
-pub item_again : (c : Shape) (item : Item) → InRange c → IsItem c item → item_of c (item_kind item) (item_body item) ≡ Some item
+-- an item that is no fault is read again
+pub item_again : (c : Shape) (item : Item) → InRange c → IsItem c item → item_kind item ≢ 8 → item_of c (item_kind item) (item_body item) ≡ Some item
 unfolding item_of
-item_again c (Append lane shard replica bytes) range is = append_again c lane shard.0 replica.0 bytes range is.0 is.1 is.2 is.3
-item_again c (Read lane shard replica position) range is = read_again c lane shard.0 replica.0 position.0 range is.0 is.1 is.2 is.3
-item_again c (Subscribe lane shard replica from count) range is =
+item_again c (Append lane shard replica bytes) range is other = append_again c lane shard.0 replica.0 bytes range is.0 is.1 is.2 is.3
+item_again c (Read lane shard replica position) range is other = read_again c lane shard.0 replica.0 position.0 range is.0 is.1 is.2 is.3
+item_again c (Subscribe lane shard replica from count) range is other =
     subscribe_again c lane shard.0 replica.0 from.0 count range is.0 is.1 is.2 is.3 is.4 is.5
-item_again c (Trim lane position) range is = trim_again lane position.0 is.0 is.1
-item_again c (Add lane shard) range is = add_again c lane shard.0 range is.0 is.1
-item_again c (Finalise lane shard) range is = finalise_again c lane shard.0 range is.0 is.1
-item_again c (Ask lane) range is = ask_again lane is
+item_again c (Trim lane position) range is other = trim_again lane position.0 is.0 is.1
+item_again c (Add lane shard) range is other = add_again c lane shard.0 range is.0 is.1
+item_again c (Finalise lane shard) range is other = finalise_again c lane shard.0 range is.0 is.1
+item_again c (Ask lane) range is other = ask_again lane is
+item_again c (Fault lane fault) range is other = absurd (other refl)

@@ -1,12 +1,7 @@
 -- The limits of what a reader of items gives.
-use Rattle.std.proofs.Common.{◌≡◌, ℕ, ◌+◌, ◌≤◌, Bool, true, false, cond, ltb, ◌∷◌, length, Option, Some, None, refl, length-append, arith}
+use Rattle.std.proofs.Common.{◌≡◌, ℕ, ◌+◌, ◌≤◌, Bool, true, false, cond, ltb, Option, Some, None, refl}
 use Rattle.std.proofs.lemmas.Bool.{ltb-false}
-use Rattle.log_base.specs.ClusterShape.{Shape}
-use Rattle.log_base.specs.Wide.{be4}
-use Rattle.log_base.proofs.Wide.{length-be4}
-use Rattle.command_frame.specs.declared.items.Item.{Item}
-use Rattle.command_frame.specs.Items.{item_kind, item_body, item_spelling, IsItem, Counts, passed_limit}
-use Rattle.command_frame.proofs.FrameLaws.{length-item_body}
+use Rattle.command_frame.specs.Items.{Counts, passed_limit}
 
 -- where no limit is passed, the counts are within them
 pub within_limits : (counts : Counts) → passed_limit counts ≡ None → (counts.items ≤ 65536) × (counts.record_bytes ≤ 16777216)
@@ -20,7 +15,3 @@ within_limits counts e = first (ltb 65536 counts.items) (ltb-false 65536 counts.
         → (counts.items ≤ 65536) × (counts.record_bytes ≤ 16777216)
     first true below e = absurd (cc)
     first false below e = (below refl, second (ltb 16777216 counts.record_bytes) (ltb-false 16777216 counts.record_bytes) e)
-
-pub length-item_spelling : (c : Shape) (item : Item) → IsItem c item → length (item_spelling item) ≤ 65544
-length-item_spelling c item is =
-    omega (arith, length-item_body c item is, length-append (be4 (length (item_body item) + 1)) (item_kind item ∷ item_body item), length-be4 (length (item_body item) + 1))

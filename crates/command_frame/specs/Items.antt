@@ -3,7 +3,8 @@ use Rattle.std.specs.Prelude.{◌≡◌, ℕ, ◌+◌, ◌<◌, ◌≤◌, ◌^�
 use Rattle.log_base.specs.ClusterShape.{Shape}
 use Rattle.log_base.specs.Wide.{IsBytes, be2, be8}
 use Rattle.command_frame.specs.declared.items.Item.{Item}
-use Rattle.command_frame.specs.declared.items.Item.TheVariants.{Append, Read, Subscribe, Trim, Add, Finalise, Ask}
+use Rattle.command_frame.specs.declared.items.Item.TheVariants.{Append, Read, Subscribe, Trim, Add, Finalise, Ask, Fault}
+use Rattle.fault_script.specs.Lines.{IsFault, fault_line}
 use Rattle.reply_frame.specs.Frames.{frame}
 
 -- the kind of an item's frame, and its body
@@ -15,6 +16,7 @@ item_kind (Trim lane position) = 4
 item_kind (Add lane shard) = 5
 item_kind (Finalise lane shard) = 6
 item_kind (Ask lane) = 7
+item_kind (Fault lane fault) = 8
 
 abbrev pub item_body : Item → List ℕ
 item_body (Append lane shard replica bytes) = lane ∷ be2 shard.0 ++ replica.0 ∷ bytes
@@ -24,13 +26,14 @@ item_body (Trim lane position) = lane ∷ be8 position.0
 item_body (Add lane shard) = lane ∷ be2 shard.0
 item_body (Finalise lane shard) = lane ∷ be2 shard.0
 item_body (Ask lane) = lane ∷ []
+item_body (Fault lane fault) = lane ∷ fault_line fault
 
 -- the one spelling of an item
 abbrev pub item_spelling : Item → List ℕ
 item_spelling item = frame (item_kind item) (item_body item)
 
 -- the numbers of an item of a config are in range: 64 lanes, the shards and replicas that there are, at most 65,535
--- bytes in a record, and 1 to 4,096 entries that are wanted
+-- bytes in a record, 1 to 4,096 entries that are wanted, and a fault that the cluster has
 abbrev pub IsItem : Shape → Item → Type 0
 IsItem shape (Append lane shard replica bytes) =
     (lane < 64) × (shard.0 < shape.shards) × (replica.0 < shape.replicas) × (length bytes ≤ 65535) × IsBytes bytes
@@ -42,12 +45,23 @@ IsItem shape (Trim lane position) = (lane < 64) × (position.0 < 2 ^ 64)
 IsItem shape (Add lane shard) = (lane < 64) × (shard.0 < shape.shards)
 IsItem shape (Finalise lane shard) = (lane < 64) × (shard.0 < shape.shards)
 IsItem shape (Ask lane) = lane < 64
+IsItem shape (Fault lane fault) = (lane < 64) × IsFault shape fault
 
 -- a kind and a body spell an item of a config
 pub record Spells (shape : Shape) (kind : ℕ) (body : List ℕ) (item : Item) : Type 0 where
   pub of_kind : kind ≡ item_kind item
   pub with_body : body ≡ item_body item
   pub is_item : IsItem shape item
+
+-- an item is no fault
+abbrev pub IsNoFault : Item → Type 0
+IsNoFault (Fault lane fault) = ⊥
+IsNoFault item = Unit {0}
+
+-- What is read from a kind and a body: an item of the config that they spell, or none, where they spell none.
+abbrev pub IsReading : Shape → ℕ → List ℕ → Option Item → Type 0
+IsReading shape kind body None = (item : Item) → Spells shape kind body item → ⊥
+IsReading shape kind body (Some item) = Spells shape kind body item
 
 -- how many items there are, and how many bytes their records have
 pub record Counts : Type 0 where
@@ -66,6 +80,7 @@ record_bytes_of (Trim lane position) = 0
 record_bytes_of (Add lane shard) = 0
 record_bytes_of (Finalise lane shard) = 0
 record_bytes_of (Ask lane) = 0
+record_bytes_of (Fault lane fault) = 0
 
 -- the counts with one more item
 abbrev pub counted : Counts → Item → Counts

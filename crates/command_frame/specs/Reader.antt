@@ -5,6 +5,8 @@ use Rattle.log_base.specs.ClusterShape.{Shape}
 use Rattle.command_frame.specs.declared.items.Item.{Item}
 use Rattle.command_frame.specs.declared.answers.Next.{Next}
 use Rattle.command_frame.specs.declared.answers.Next.TheVariants.{Item as Given, End}
+use Rattle.command_frame.specs.declared.frames.Framed.{Framed}
+use Rattle.command_frame.specs.declared.frames.Framed.TheVariants as framed
 use Rattle.reply_frame.specs.declared.faults.ItemFault.{ItemFault}
 use Rattle.reply_frame.specs.declared.faults.ItemFault.TheVariants.{Bad, Read, Many, Memory}
 use Rattle.command_frame.specs.Items.{IsItem, item_spelling, Counts, counted, passed_limit}
@@ -27,9 +29,10 @@ NoItem shape (Some bytes) =
 
 -- What a frame's reading says of the bytes that were unread before it and after it. Only a fault of the source or
 -- want of memory may come at any bytes.
-abbrev pub Finds : Shape → Option (List ℕ) → Option (List ℕ) → Result Next ItemFault → Type 0
-Finds shape before after (Ok (Given item)) = IsItem shape item × Consumes before after (item_spelling item)
-Finds shape before after (Ok End) = Consumes before after [] × IsAtEnd after
+abbrev pub Finds : Shape → Option (List ℕ) → Option (List ℕ) → Result Framed ItemFault → Type 0
+Finds shape before after (Ok (framed.Item item size)) =
+    IsItem shape item × Consumes before after (item_spelling item) × (size ≡ length (item_spelling item))
+Finds shape before after (Ok framed.End) = Consumes before after [] × IsAtEnd after
 Finds shape before after (Err (Bad at)) = NoItem shape before
 Finds shape before after (Err (Read at)) = ⊤
 Finds shape before after (Err (Many cause)) = ⊥

@@ -1,4 +1,4 @@
--- Reading an item: the item of a config that a frame of a kind with a body stands for, if it is one.
+-- Reading an item that is no fault: the item of a config that a frame of a kind with a body stands for, if it is one.
 use Rattle.std.specs.Prelude.{ℕ, Bool, List, length, drop, slice_index, nat_lt, nat_le, ◌&&◌, ◌==◌, if◌then◌else◌, Option, Some, None}
 use Rattle.log_base.specs.ClusterShape.{Shape}
 use Rattle.log_base.specs.Wide.{number2, number8}
@@ -62,7 +62,7 @@ ask_of body =
     then Some (Ask (slice_index body 0))
     else None
 
--- the kinds that are served
+-- the kinds of items that are no faults
 unfoldable pub item_of : Shape → ℕ → List ℕ → Option Item
 item_of shape kind body =
     if kind == 1 then append_of shape body

@@ -4,9 +4,10 @@ ghost use Rattle.std.specs.Prelude.{◌≡◌, ℕ, ◌<◌, ◌≤◌, length, 
 ghost use Rattle.std.specs.Io.KnownBytes.{Consumes, IsAtEnd};
 ghost use Rattle.log_base.specs.Outside.{Rose, unread, ReadsOn, TakesOn};
 ghost use Rattle.log_base.specs.Shape.{shape};
+ghost use Rattle.command_frame.specs.declared.items.Item.{Item};
 ghost use Rattle.command_frame.specs.Reader.{Finds};
 
-use crate::answers::Next;
+use crate::items::Item;
 use crate::reading::read_item;
 use log_base::{Config, PieceReader, Source, Stop, number_u32};
 use reply_frame::ItemFault;
@@ -15,6 +16,13 @@ use std::alloc::Global;
 /// How long a frame of an item may be behind its length.
 const LONGEST: u32 = 65_541;
 
+/// What stands next: an item with the size of its frame, or the end of the source.
+#[derive(Debug, Drop)]
+pub enum Framed {
+    Item { item: Item, size: u32 },
+    End,
+}
+
 /// The item of the next frame, which begins at a place.
 pub fn read_framed<S: Source>(
     alloc: Global,
@@ -22,8 +30,9 @@ pub fn read_framed<S: Source>(
     place: u64,
     pieces: &mut PieceReader,
     source: &mut S,
-) -> Result<Next, ItemFault>
+) -> Result<Framed, ItemFault>
     ensures finds { Finds (shape config.now) (unread pieces.old.pending (S.left source.old)) (unread pieces.new.pending (S.left source.new)) result }
+    ensures short { (item : Item) (size : ℕ) → result ≡ Ok (Framed.Item item size) → size ≤ 65545 }
     ensures passes { ReadsOn (unread pieces.old.pending (S.left source.old)) (unread pieces.new.pending (S.left source.new)) }
     ensures taken { TakesOn pieces.old.taken pieces.new.taken (S.left source.old) (S.left source.new) }
     ensures bad { (at : ℕ) → result ≡ Err (ItemFault.Bad at) → at ≡ place }
@@ -32,7 +41,7 @@ pub fn read_framed<S: Source>(
 {
     let head = take(alloc, pieces, source, 4)?;
     if head.is_empty() {
-        return Ok(Next::End);
+        return Ok(Framed::End);
     }
     if head.len() < 4 {
         return Err(ItemFault::Bad { at: place });
@@ -46,7 +55,10 @@ pub fn read_framed<S: Source>(
         return Err(ItemFault::Bad { at: place });
     }
     match read_item(alloc, config, &frame)? {
-        Some(item) => Ok(Next::Item(item)),
+        Some(item) => Ok(Framed::Item {
+            item,
+            size: length + 4,
+        }),
         None => Err(ItemFault::Bad { at: place }),
     }
 }

@@ -7,8 +7,8 @@ ghost use Rattle.command_frame.specs.Items.{IsItem, item_spelling, counted, none
 ghost use Rattle.command_frame.specs.Reader.{Answers, Moves};
 
 use crate::answers::Next;
-use crate::frames::read_framed;
-use crate::items::{Item, record_length, spelled_length};
+use crate::frames::{Framed, read_framed};
+use crate::items::{Item, record_length};
 use log_base::{Config, PieceReader, Source};
 use reply_frame::ItemFault;
 use std::alloc::Global;
@@ -94,14 +94,14 @@ impl ItemReader {
             &mut self.pieces,
             source,
         ) {
-            Ok(Next::Item(item)) => match self.limit_passed(&item) {
+            Ok(Framed::Item { item, size }) => match self.limit_passed(&item) {
                 Some(cause) => self.fail(ItemFault::Many { cause }),
                 None => {
-                    self.count(&item);
+                    self.count(&item, size);
                     Ok(Next::Item(item))
                 }
             },
-            Ok(Next::End) => Ok(Next::End),
+            Ok(Framed::End) => Ok(Next::End),
             Err(fault) => self.fail(fault),
         }
     }
@@ -120,9 +120,11 @@ impl ItemReader {
         None
     }
 
-    /// Counts an item, and moves past its spelling.
-    fn count(&mut self, item: &Item)
+    /// Counts an item, and moves past its frame.
+    fn count(&mut self, item: &Item, size: u32)
         requires is_item { IsItem self.old.config item.now }
+        requires size { size ≡ length (item_spelling item.now) }
+        requires short { size ≤ 65545 }
         requires limits { passed_limit (counted self.old.counts item.now) ≡ None }
         ensures { self.new ≡ record self.old {
           counts = counted self.old.counts item.now;
@@ -131,7 +133,7 @@ impl ItemReader {
     {
         self.items += 1;
         self.record_bytes += record_length(item);
-        self.offset += u64::from(spelled_length(item));
+        self.offset += u64::from(size);
     }
 
     /// Keeps a fault and answers it.

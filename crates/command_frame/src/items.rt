@@ -1,8 +1,9 @@
 //! The items, each a command of one lane.
 
-ghost use Rattle.std.specs.Prelude.{◌≡◌, ◌≤◌, length};
-ghost use Rattle.command_frame.specs.Items.{item_spelling, record_bytes_of};
+ghost use Rattle.std.specs.Prelude.{◌≡◌, ◌≤◌};
+ghost use Rattle.command_frame.specs.Items.{record_bytes_of};
 
+use fault_script::Fault;
 use log_base::{Bytes, Position, Replica, Shard};
 
 /// A command. Its lane, 0 to 63, is the client of the same number.
@@ -49,6 +50,11 @@ pub enum Item {
     Ask {
         lane: u8,
     },
+    /// Something goes wrong, or is told to: what a line of the fault script says.
+    Fault {
+        lane: u8,
+        fault: Fault,
+    },
 }
 
 /// How many bytes the record of an item has.
@@ -59,21 +65,5 @@ pub fn record_length(item: &Item) -> u32
     match item {
         Item::Append { bytes, .. } => bytes.get().len() as u32,
         _ => 0,
-    }
-}
-
-/// How many bytes spell an item.
-#[tactic(auto, unfolding(log_base::specs::Wide::be2, log_base::specs::Wide::be4, log_base::specs::Wide::be8))]
-pub fn spelled_length(item: &Item) -> u32
-    requires { record_bytes_of item.now ≤ 65535 }
-    ensures { result ≡ length (item_spelling item.now) }
-{
-    match item {
-        Item::Append { bytes, .. } => bytes.get().len() as u32 + 9,
-        Item::Read { .. } => 17,
-        Item::Subscribe { .. } => 19,
-        Item::Trim { .. } => 14,
-        Item::Add { .. } | Item::Finalise { .. } => 8,
-        Item::Ask { .. } => 6,
     }
 }

@@ -1,20 +1,56 @@
 //! Reading an item from the body of its frame.
 
-ghost use Rattle.std.specs.Prelude.{◌≡◌, ◌<◌, ◌≤◌, length, drop, slice_index, nat_lt, IfOk};
+ghost use Rattle.std.specs.Prelude.{◌≡◌, ◌≢◌, ◌<◌, ◌≤◌, length, drop, slice_index, nat_lt, IfOk};
 ghost use Rattle.log_base.specs.Shape.{shape};
+ghost use Rattle.command_frame.specs.Items.{IsReading};
 ghost use Rattle.command_frame.specs.Reading.{names_shard, names_replica, append_of, read_of, subscribe_of, trim_of, add_of, finalise_of, ask_of, item_of};
 
 use crate::items::Item;
+use fault_script::read_fault;
 use log_base::{Bytes, Config, Position, Replica, Shard, number_u16, number_u64};
 use std::alloc::{AllocError, Global};
 
-/// The item that a kind and a body, as they stand in a frame, are of the config, if they are one.
+/// The item that a kind and a body, as they stand in a frame, spell of the config, if they spell one.
 pub fn read_item(alloc: Global, config: &Config, content: &[u8]) -> Result<Option<Item>, AllocError>
     requires { 0 < length content.now }
-    ensures { IfOk result (λ item. item ≡ item_of (shape config.now) (slice_index content.now 0) (drop 1 content.now)) }
+    ensures { IfOk result (λ item. IsReading (shape config.now) (slice_index content.now 0) (drop 1 content.now) item) }
 {
     let (kind, body) = content.split_at(1);
-    read_kind(alloc, config, kind[0], body)
+    match kind[0] {
+        8 => Ok(read_line(config, body)),
+        kind => read_command(alloc, config, kind, body),
+    }
+}
+
+/// The fault that a lane and a line spell.
+fn read_line(config: &Config, body: &[u8]) -> Option<Item>
+    ensures { IsReading (shape config.now) 8 body.now result }
+{
+    if body.is_empty() {
+        return None;
+    }
+    let (lane, line) = body.split_at(1);
+    let lane = lane[0];
+    if lane >= 64 {
+        return None;
+    }
+    match read_fault(config, line) {
+        Ok(fault) => return Some(Item::Fault { lane, fault }),
+        Err(_) => return None,
+    }
+}
+
+/// The item of a kind other than a fault's.
+fn read_command(
+    alloc: Global,
+    config: &Config,
+    kind: u8,
+    body: &[u8],
+) -> Result<Option<Item>, AllocError>
+    requires { kind ≢ 8 }
+    ensures { IfOk result (λ item. IsReading (shape config.now) kind body.now item) }
+{
+    read_kind(alloc, config, kind, body)
 }
 
 #[tactic(auto, unfolding(crate::specs::Reading::item_of))]

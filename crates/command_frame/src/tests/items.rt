@@ -6,11 +6,13 @@ use std::alloc::Global;
 use std::test::Fail;
 
 /// Add of shard 0; Append of "a" to segment 0 of shard 0; Read of position 0 at replica 0 of shard 0; on lane 63,
-/// Trim to position 258; Finalise of shard 0; Ask; Subscribe to 4,096 entries from position 258 on, at replica 0 of shard 0.
-const SEVEN: [u8; 82] = [
+/// Trim to position 258; Finalise of shard 0; Ask; Subscribe to 4,096 entries from position 258 on, at replica 0 of shard 0;
+/// on lane 2, the fault `lead 0`.
+const EIGHT: [u8; 94] = [
     0, 0, 0, 4, 5, 0, 0, 0, 0, 0, 0, 6, 1, 0, 0, 0, 0, 97, 0, 0, 0, 13, 2, 0, 0, 0, 0, 0, 0, 0, 0,
     0, 0, 0, 0, 0, 0, 0, 10, 4, 63, 0, 0, 0, 0, 0, 0, 1, 2, 0, 0, 0, 4, 6, 63, 0, 0, 0, 0, 0, 2, 7,
-    63, 0, 0, 0, 15, 3, 63, 0, 0, 0, 0, 0, 0, 0, 0, 0, 1, 2, 16, 0,
+    63, 0, 0, 0, 15, 3, 63, 0, 0, 0, 0, 0, 0, 0, 0, 0, 1, 2, 16, 0, 0, 0, 0, 8, 8, 2, 108, 101, 97,
+    100, 32, 48,
 ];
 
 /// How many items are read, up to 70,000, and the place and the fault that end them, if it is not the end.
@@ -42,7 +44,7 @@ fn read_all(
 #[test]
 fn items_of_the_vectors(rt: HostRuntime) -> Result<(), Fail> {
     let config = Config::new(1, 1, 1, 1).ok().ok_or("config")?;
-    let bytes = Vec::from_slice(rt.alloc(), &SEVEN)?;
+    let bytes = Vec::from_slice(rt.alloc(), &EIGHT)?;
     let mut source = MemorySource::new(bytes, 5, Vec::new(rt.alloc()));
     let mut reader = ItemReader::new(rt.alloc(), config);
     let table = [
@@ -62,8 +64,9 @@ fn items_of_the_vectors(rt: HostRuntime) -> Result<(), Fail> {
             82,
             "Item(Subscribe { lane: 63, shard: Shard(0), replica: Replica(0), from: Position(258), count: 4096 })",
         ),
-        (82, "End"),
-        (82, "End"),
+        (94, "Item(Fault { lane: 2, fault: Lead { orderer: 0 } })"),
+        (94, "End"),
+        (94, "End"),
     ];
     for (offset, want) in table {
         let next = reader.next(&mut source).ok().ok_or("fault")?;
@@ -77,8 +80,8 @@ fn items_of_the_vectors(rt: HostRuntime) -> Result<(), Fail> {
 
 #[test]
 fn items_cut_short(rt: HostRuntime) -> Result<(), Fail> {
-    for size in 0..83 {
-        let bytes = Vec::from_slice(rt.alloc(), &SEVEN[..size])?;
+    for size in 0..95 {
+        let bytes = Vec::from_slice(rt.alloc(), &EIGHT[..size])?;
         let (count, at) = match size {
             0..8 => (0, 0),
             8..18 => (1, 8),
@@ -87,7 +90,8 @@ fn items_cut_short(rt: HostRuntime) -> Result<(), Fail> {
             49..57 => (4, 49),
             57..63 => (5, 57),
             63..82 => (6, 63),
-            _ => (7, 82),
+            82..94 => (7, 82),
+            _ => (8, 94),
         };
         let fault = if at == size as u64 {
             None
@@ -102,7 +106,7 @@ fn items_cut_short(rt: HostRuntime) -> Result<(), Fail> {
 
 #[test]
 fn no_items(rt: HostRuntime) -> Result<(), Fail> {
-    let table: [(&str, &[u8]); 24] = [
+    let table: [(&str, &[u8]); 27] = [
         ("length 0", &[0, 0, 0, 0, 5, 0, 0, 0]),
         ("length 65,542", &[0, 1, 0, 6, 5, 0, 0, 0]),
         ("length 2^32 - 1", &[255, 255, 255, 255, 5, 0, 0, 0]),
@@ -121,7 +125,13 @@ fn no_items(rt: HostRuntime) -> Result<(), Fail> {
         ),
         ("Ask on lane 64", &[0, 0, 0, 2, 7, 64]),
         ("Ask with a byte too many", &[0, 0, 0, 3, 7, 0, 0]),
-        ("Fault", &[0, 0, 0, 6, 8, 0, 104, 111, 108, 100]),
+        ("Fault with no lane", &[0, 0, 0, 1, 8]),
+        ("Fault with no line", &[0, 0, 0, 2, 8, 0]),
+        ("Fault on lane 64", &[0, 0, 0, 6, 8, 64, 104, 111, 108, 100]),
+        (
+            "Fault `lead 1`",
+            &[0, 0, 0, 8, 8, 0, 108, 101, 97, 100, 32, 49],
+        ),
         ("kind 9", &[0, 0, 0, 4, 9, 0, 0, 0]),
         ("lane 64", &[0, 0, 0, 4, 5, 64, 0, 0]),
         ("Add of shard 1", &[0, 0, 0, 4, 5, 0, 0, 1]),
