@@ -21,7 +21,7 @@ use Rattle.log_model.proofs.Growth.{freeze-shard, freeze-covered, length-raised}
 use Rattle.log_model.proofs.Spelled.{covered_of-add, covered_of-finalise}
 use Rattle.log_model.proofs.States.{state_in-map}
 use Rattle.command_frame.specs.declared.items.Item.{Item}
-use Rattle.command_frame.specs.declared.items.Item.TheVariants.{Append, Read, Subscribe, Trim, Add, Finalise, Ask}
+use Rattle.command_frame.specs.declared.items.Item.TheVariants.{Append, Read, Subscribe, Trim, Add, Finalise, Ask, Fault}
 use Rattle.command_frame.specs.Items.{IsItem}
 use Rattle.plain_log.specs.Coherent.{IsOfShape, IsCoherent, IsCoherentState}
 use Rattle.plain_log.specs.Log.{LogState, start, after, after_entry, state_after, knows, found_standing, standing_of, drawn, stored, with_value, next_entry, cut_of}
@@ -184,6 +184,7 @@ coherent_after shape run state (Finalise lane shard) item is =
     (λ _. coherent_value shape state (FinaliseValue shard) (coherent_finalised shape (chain_of shape.replicas state.values) state.segments shard is))
     (λ _. is)
 coherent_after shape run state (Ask lane) item is = is
+coherent_after shape run state (Fault lane fault) item is = is
 
 pub coherent_state_after : (shape : Shape) (run : ℕ) (state : LogState) (items : List Item) → AllByRecursion (IsItem shape) items
     → IsCoherentState shape state → IsCoherentState shape (state_after shape run state items)

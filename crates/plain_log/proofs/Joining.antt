@@ -18,7 +18,7 @@ use Rattle.log_model.proofs.Frozen.{frozen-apply_all, frozen-finalise}
 use Rattle.log_model.proofs.Growth.{mark-apply_all}
 use Rattle.log_model.proofs.States.{state_of_added}
 use Rattle.command_frame.specs.declared.items.Item.{Item}
-use Rattle.command_frame.specs.declared.items.Item.TheVariants.{Append, Read, Subscribe, Trim, Add, Finalise, Ask}
+use Rattle.command_frame.specs.declared.items.Item.TheVariants.{Append, Read, Subscribe, Trim, Add, Finalise, Ask, Fault}
 use Rattle.reply_frame.specs.declared.replies.Reply.{Settled, NoSuchShard, Trimmed}
 use Rattle.plain_log.specs.Log.{LogState, start, after, after_entry, state_after, knows, found_standing, standing_of, drawn, with_value, next_entry, read_in, reply_to, told_slot}
 use Rattle.plain_log.specs.Wishes.{wished, NoTrim, NoFinalise}
@@ -51,6 +51,7 @@ item_joins P cuts shape run state (Finalise lane shard) wish =
     cond_both (knows shape.replicas state shard.0) (with_value state (FinaliseValue shard)) state (Joins P state)
     (λ _. inr (FinaliseValue shard, wish (FinaliseValue shard) refl, refl)) (λ _. inl refl)
 item_joins P cuts shape run state (Ask lane) wish = inl refl
+item_joins P cuts shape run state (Fault lane fault) wish = inl refl
 
 -- The values after items are those before and more, each a cut or what an item asks for.
 pub items_join : (P : Value → Type 0) → ((lengths : Lengths) → P (Cut lengths)) → (shape : Shape) (run : ℕ) (state : LogState) (items : List Item)
@@ -202,6 +203,7 @@ wish_told shape run state (Finalise lane shard) value wish there =
     (λ none. absurd (there (cond-false known (told_slot state) NoSuchShard none)))
     (cases_Bool known)
 wish_told shape run state (Ask lane) value wish there = absurd (cc)
+wish_told shape run state (Fault lane fault) value wish there = absurd (cc)
 
 -- A value that an item asks for gets the next slot, and stays in it.
 pub wish_settled : (shape : Shape) (run : ℕ) (state : LogState) (item : Item) (value : Value) (slot : Slot) (more : List Item)
@@ -227,6 +229,7 @@ wish_settled shape run state (Finalise lane shard) value slot more wish told =
     absurd (cc))
     (cases_Bool known)
 wish_settled shape run state (Ask lane) value slot more wish told = absurd (cc)
+wish_settled shape run state (Fault lane fault) value slot more wish told = absurd (cc)
 
 -- What a trim gives up stays given up.
 pub trim_stays : (shape : Shape) (run : ℕ) (state : LogState) (lane : ℕ) (below : Position) (more : List Item) (position : Position)

@@ -12,7 +12,7 @@ use Rattle.log_model.specs.Chain.{Standing, Live, Frozen}
 use Rattle.log_model.specs.Lookup.{segment_index}
 use Rattle.log_model.specs.Pairs.{last_of, offset_of}
 use Rattle.command_frame.specs.declared.items.Item.{Item}
-use Rattle.command_frame.specs.declared.items.Item.TheVariants.{Append, Read, Subscribe, Trim, Add, Finalise, Ask}
+use Rattle.command_frame.specs.declared.items.Item.TheVariants.{Append, Read, Subscribe, Trim, Add, Finalise, Ask, Fault}
 use Rattle.command_frame.specs.Items.{IsItem}
 use Rattle.plain_log.specs.Lanes.{IsNoAppendOf, NoAppendOf}
 use Rattle.plain_log.specs.Log.{LogState, Primary, start, after, after_entry, state_after, drawn, knows, next_entry, primary_of, standing_of, stored, with_value}
@@ -101,6 +101,7 @@ stays_after lane shape run state (Finalise own shard) other =
     cond_both (knows shape.replicas state shard.0) (with_value state (FinaliseValue shard)) state (Stays lane state)
     (λ _. stays_value lane state (with_value state (FinaliseValue shard)) refl refl refl) (λ _. stays_same lane state)
 stays_after lane shape run state (Ask own) other = stays_same lane state
+stays_after lane shape run state (Fault own fault) other = stays_same lane state
 
 -- Items that are no append of a lane keep all of it.
 pub stays_items : (lane : ℕ) (shape : Shape) (run : ℕ) (state : LogState) (items : List Item) → NoAppendOf lane items
@@ -198,6 +199,7 @@ drawn_after shape run state (Finalise lane shard) item is =
     cond_both (knows shape.replicas state shard.0) (with_value state (FinaliseValue shard)) state (HasDrawn run)
     (λ _. drawn_value run state (with_value state (FinaliseValue shard)) refl refl refl is) (λ _. is)
 drawn_after shape run state (Ask lane) item is = is
+drawn_after shape run state (Fault lane fault) item is = is
 
 pub drawn_state_after : (shape : Shape) (run : ℕ) (state : LogState) (items : List Item) → AllByRecursion (IsItem shape) items
     → HasDrawn run state → HasDrawn run (state_after shape run state items)

@@ -8,7 +8,7 @@ use Rattle.record_frame.specs.declared.values.Value.TheVariants.{Add as AddValue
 use Rattle.record_frame.specs.declared.entries.Entry.{Entry}
 use Rattle.log_model.specs.Chain.{Standing, Live, Frozen}
 use Rattle.command_frame.specs.declared.items.Item.{Item}
-use Rattle.command_frame.specs.declared.items.Item.TheVariants.{Append, Read, Subscribe, Trim, Add, Finalise, Ask}
+use Rattle.command_frame.specs.declared.items.Item.TheVariants.{Append, Read, Subscribe, Trim, Add, Finalise, Ask, Fault}
 use Rattle.plain_log.specs.Log.{LogState, start, after, after_entry, knows, standing_of, drawn, stored, with_value, next_entry}
 use Rattle.plain_log.specs.Halting.{after_down}
 use Rattle.plain_log.specs.Room.{HasRoom}
@@ -67,6 +67,7 @@ room_after shape run state (Finalise lane shard) most room =
     cond_both (knows shape.replicas state shard.0) (with_value state (FinaliseValue shard)) state (λ (next : LogState). HasRoom next (most + 1))
     (λ _. room_value state (FinaliseValue shard) most room) (λ _. room_same state most room)
 room_after shape run state (Ask lane) most room = room_same state most room
+room_after shape run state (Fault lane fault) most room = room_same state most room
 
 pub room_down : (shape : Shape) (run : ℕ) (state : LogState) (item : Item) (most : ℕ) → HasRoom state most → HasRoom (after_down shape run state item) (most + 1)
 room_down shape run state (Append lane shard replica bytes) most room = room_drawn state lane shard.0 replica.0 most room
@@ -76,3 +77,4 @@ room_down shape run state (Trim lane position) most room = room_value state (Tri
 room_down shape run state (Add lane shard) most room = room_value state (AddValue shard) most room
 room_down shape run state (Finalise lane shard) most room = room_after shape run state (Finalise lane shard) most room
 room_down shape run state (Ask lane) most room = room_same state most room
+room_down shape run state (Fault lane fault) most room = room_same state most room

@@ -16,8 +16,8 @@ use Rattle.log_model.specs.Places.{place_at}
 use Rattle.log_model.specs.Lookup.{segment_index, entry_at_position, position_of_place}
 use Rattle.log_model.specs.Storage.{Member, knowledge_of}
 use Rattle.command_frame.specs.declared.items.Item.{Item}
-use Rattle.command_frame.specs.declared.items.Item.TheVariants.{Append, Read, Subscribe, Trim, Add, Finalise, Ask}
-use Rattle.reply_frame.specs.declared.replies.Reply.{Reply, Nothing, At, Found, PendingAsk, PendingRead, Finalised, FinalisedAt, NotAdded, Stale, Missing, Trimmed, NoSuchShard, Settled, NothingKept}
+use Rattle.command_frame.specs.declared.items.Item.TheVariants.{Append, Read, Subscribe, Trim, Add, Finalise, Ask, Fault}
+use Rattle.reply_frame.specs.declared.replies.Reply.{Reply, Nothing, At, Found, PendingAsk, PendingRead, Finalised, FinalisedAt, NotAdded, Stale, Missing, Trimmed, NoSuchShard, Settled, NothingKept, Done}
 use Rattle.plain_log.specs.Streams.{subscribed}
 
 -- the replica of a shard that appends go to
@@ -100,7 +100,8 @@ after_entry replicas state shard segment entry (Some Frozen) = state
 after_entry replicas state shard segment entry (Some Live) = stored replicas state shard segment entry
 
 -- The state after an item. An append draws a number, also where its entry is not stored. An addition, a trim, and the
--- finalisation of a shard that was added join the values, also where the chain stays as it is.
+-- finalisation of a shard that was added join the values, also where the chain stays as it is. One thread has no faults: a line of
+-- the fault script changes nothing.
 abbrev pub after : Shape → ℕ → LogState → Item → LogState
 after shape run state (Append lane shard replica bytes) =
     after_entry shape.replicas (drawn state lane shard.0 replica.0) shard.0 replica.0 (next_entry run state lane bytes) (standing_of shape.replicas state shard.0)
@@ -110,6 +111,7 @@ after shape run state (Trim lane position) = with_value state (TrimValue positio
 after shape run state (Add lane shard) = with_value state (AddValue shard)
 after shape run state (Finalise lane shard) = if knows shape.replicas state shard.0 then with_value state (FinaliseValue shard) else state
 after shape run state (Ask lane) = state
+after shape run state (Fault lane fault) = state
 
 -- where a place stands, as a reply
 abbrev pub told_position : Option ℕ → Reply
@@ -177,6 +179,7 @@ reply_to shape run state (Trim lane position) = told_slot state
 reply_to shape run state (Add lane shard) = told_slot state
 reply_to shape run state (Finalise lane shard) = if knows shape.replicas state shard.0 then told_slot state else NoSuchShard
 reply_to shape run state (Ask lane) = ask_in shape.replicas run state lane
+reply_to shape run state (Fault lane fault) = Done
 
 -- the replies to items, one after another, from a state on
 abbrev pub replies_from : Shape → ℕ → LogState → List Item → List Reply

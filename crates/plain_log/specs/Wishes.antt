@@ -6,7 +6,7 @@ use Rattle.log_base.specs.declared.numbers.Shard.{Shard}
 use Rattle.record_frame.specs.declared.values.Value.{Value}
 use Rattle.record_frame.specs.declared.values.Value.TheVariants.{Add as AddValue, Finalise as FinaliseValue, Trim as TrimValue}
 use Rattle.command_frame.specs.declared.items.Item.{Item}
-use Rattle.command_frame.specs.declared.items.Item.TheVariants.{Append, Read, Subscribe, Trim, Add, Finalise, Ask}
+use Rattle.command_frame.specs.declared.items.Item.TheVariants.{Append, Read, Subscribe, Trim, Add, Finalise, Ask, Fault}
 
 -- the value that an item asks for
 abbrev pub wished : Item → Option Value
@@ -17,6 +17,7 @@ wished (Trim lane position) = Some (TrimValue position)
 wished (Add lane shard) = Some (AddValue shard)
 wished (Finalise lane shard) = Some (FinaliseValue shard)
 wished (Ask lane) = None
+wished (Fault lane fault) = None
 
 -- an item is no trim
 abbrev pub IsNoTrim : Item → Type 0
