@@ -16,8 +16,8 @@ use Rattle.node_model.specs.Machine.{ClusterNode, posted}
 use Rattle.record_frame.specs.declared.entries.Entry.{Entry}
 use Rattle.reply_frame.specs.declared.replies.Reply.{Reply, Found, Nothing, Stream'}
 use Rattle.reply_frame.specs.Replies.{IsReply, reply_bytes}
-use Rattle.serial_schedule.specs.Keeping.{IsSingle}
-use Rattle.serial_schedule.proofs.Singles.{row_reply}
+use Rattle.schedule_model.specs.Streams.{IsSingle}
+use Rattle.schedule_model.proofs.Singles.{row_reply}
 use Rattle.cluster.specs.Sizing.{letters_size}
 use Rattle.cluster.specs.Stepping.{Acts}
 

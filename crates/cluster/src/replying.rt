@@ -2,7 +2,7 @@
 
 ghost use Rattle.std.specs.Prelude.{◌≡◌, ◌≤◌, [], length, vec_len, vec_capacity};
 ghost use Rattle.reply_frame.specs.Replies.{reply_bytes};
-ghost use Rattle.serial_schedule.specs.Keeping.{IsSingle};
+ghost use Rattle.schedule_model.specs.Streams.{IsSingle};
 
 use log_base::Bytes;
 use record_frame::Entry;

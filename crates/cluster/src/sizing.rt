@@ -3,7 +3,7 @@
 ghost use Rattle.std.specs.Prelude.{◌≡◌, ◌+◌, ◌≤◌, ◌++◌, ◌∷◌, length, take};
 ghost use Rattle.history_frame.specs.Spelling.{IsInput, input_spelling};
 ghost use Rattle.reply_frame.specs.Replies.{reply_bytes};
-ghost use Rattle.serial_schedule.specs.Keeping.{IsSingle};
+ghost use Rattle.schedule_model.specs.Streams.{IsSingle};
 ghost use Rattle.cluster.specs.Sizing.{letters_size};
 
 use history_frame::{Happened, Input, Mark, event_length};

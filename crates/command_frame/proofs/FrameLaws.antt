@@ -1,14 +1,13 @@
 -- No item's frame begins another, and what a frame's reading finds.
-use Rattle.std.proofs.Common.{◌≡◌, ℕ, ◌+◌, ◌<◌, ◌≤◌, ◌^◌, ◌⊎◌, List, [], ◌∷◌, ◌++◌, length, take, drop, get_or, Option, Some, None, refl, sym, ap, ◌∙◌, subst, append_assoc, append-nil, length-append, arith}
+use Rattle.std.proofs.Common.{◌≡◌, ℕ, ◌+◌, ◌<◌, ◌≤◌, ◌⊎◌, List, [], ◌∷◌, ◌++◌, length, take, drop, get_or, Option, Some, None, refl, sym, ap, ◌∙◌, subst, append_assoc, append-nil, length-append, arith}
 use Rattle.std.proofs.lemmas.List.{take_at, drop_at, take_all}
 use Rattle.std.proofs.KnownBytes.{Consumes-trans}
 use Rattle.std.specs.Io.KnownBytes.{Consumes, IsAtEnd}
 use Rattle.log_base.specs.ClusterShape.{Shape, InRange}
 use Rattle.log_base.specs.Wide.{IsBytes, be2, be4, be8, number4}
-use Rattle.log_base.proofs.Wide.{length-be4, length-be8, number4-be4, be4-number4, IsBytes-drop}
+use Rattle.log_base.proofs.Wide.{length-be4, length-be8, be4-number4}
 use Rattle.command_frame.specs.declared.items.Item.{Item}
 use Rattle.command_frame.specs.declared.items.Item.TheVariants.{Append, Read, Subscribe, Trim, Add, Finalise, Ask, Fault}
-use Rattle.reply_frame.specs.Frames.{frame}
 use Rattle.command_frame.specs.Items.{item_kind, item_body, item_spelling, IsItem, IsReading}
 use Rattle.reply_frame.proofs.FrameLaws.{frame-behind, frame-number, one_frame}
 use Rattle.command_frame.specs.Reader.{NoItem}

@@ -1,7 +1,7 @@
 -- Streams: how much they take, and where the last answer of one stands. A reply has at most 2,097,152 bytes, and at most 22 of them
 -- beside the entries of its stream.
 use Rattle.std.specs.Prelude.{ℕ, ◌-◌, Bool, length, nat_le}
-use Rattle.std.specs.Global.{Box, Global}
+use Rattle.std.specs.Global.{Box}
 use denote.RawPtr.{null_ptr}
 use Rattle.record_frame.specs.declared.entries.Entry.{Entry}
 use Rattle.reply_frame.specs.declared.replies.Reply.{Reply, Stream'}

@@ -12,7 +12,7 @@ use Rattle.node_model.specs.StorageNode.{StorageNode, member_of}
 use Rattle.node_model.specs.StorageRow.{answered, ask_reply, call_row, on_ask}
 use Rattle.command_frame.specs.declared.items.Item.TheVariants.{Ask}
 use Rattle.plain_log.specs.Log.{LogState, Primary, asked_of, entries_of, primary_of, reply_to, told_asked, told_last}
-use Rattle.serial_schedule.specs.Courses.{asked, beginning, client_of, last_number}
+use Rattle.schedule_model.specs.Courses.{asked, beginning, client_of, last_number}
 use Rattle.quiet_model.specs.Moments.{Moment}
 use Rattle.quiet_model.specs.Settled.{IsReplica, ListsOf, list_at}
 use Rattle.quiet_law.specs.Going.{Goes}

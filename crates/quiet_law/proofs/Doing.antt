@@ -10,14 +10,14 @@ use Rattle.history_frame.specs.declared.events.Event.{Event}
 use Rattle.history_frame.specs.declared.inputs.Call.{Call}
 use Rattle.history_frame.specs.declared.inputs.Input.{Input}
 use Rattle.history_frame.specs.declared.inputs.Input.TheVariants.{Deliver, Call as ACall}
-use Rattle.serial_schedule.specs.declared.duties.Awaited.{Awaited}
-use Rattle.serial_schedule.specs.declared.duties.Duty.{Duty}
-use Rattle.serial_schedule.specs.declared.duties.Duty.TheVariants.{Give, DeliverAll, MakeCall}
-use Rattle.serial_schedule.specs.declared.duties.Signal.{Signal}
-use Rattle.serial_schedule.specs.declared.duties.Signal.TheVariants.{Restart, Lead, Tick}
-use Rattle.serial_schedule.specs.Courses.{course_of}
-use Rattle.serial_schedule.specs.Duties.{give, signal_input}
-use Rattle.serial_schedule.specs.Scheduling.{Scheduled, Waiting, letters_from, ready, taken}
+use Rattle.schedule_model.specs.declared.duties.Awaited.{Awaited}
+use Rattle.schedule_model.specs.declared.duties.Duty.{Duty}
+use Rattle.schedule_model.specs.declared.duties.Duty.TheVariants.{Give, DeliverAll, MakeCall}
+use Rattle.schedule_model.specs.declared.duties.Signal.{Signal}
+use Rattle.schedule_model.specs.declared.duties.Signal.TheVariants.{Restart, Lead, Tick}
+use Rattle.schedule_model.specs.Courses.{course_of}
+use Rattle.schedule_model.specs.Duties.{give, signal_input}
+use Rattle.schedule_model.specs.Scheduling.{Scheduled, Waiting, letters_from, ready, taken}
 use Rattle.quiet_model.specs.Moments.{AreDelivered, Moment, TakeInTurn}
 use Rattle.quiet_law.specs.Going.{DoneThen}
 use Rattle.quiet_law.specs.Quiet.{quiet_mark}

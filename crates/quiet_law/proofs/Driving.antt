@@ -13,16 +13,16 @@ use Rattle.command_frame.specs.declared.items.Item.{Item}
 use Rattle.command_frame.specs.declared.items.Item.TheVariants.{Append, Read, Subscribe, Trim, Add, Finalise, Ask}
 use Rattle.reply_frame.specs.declared.replies.Reply.{Reply, Nothing, Stored, Found, Down, Elsewhere, Taken, NotLeading, NoLeader}
 use Rattle.history_frame.specs.declared.events.Event.{Event}
-use Rattle.serial_schedule.specs.declared.courses.Course.{Course}
-use Rattle.serial_schedule.specs.declared.courses.Course.TheVariants.{Replies, GoesOn, Takes, Completes, Ends}
-use Rattle.serial_schedule.specs.declared.duties.Awaited.{Awaited}
-use Rattle.serial_schedule.specs.declared.duties.Awaited.TheVariants.{Storing, Requesting, Reading, Streaming, StreamingOn, Last}
-use Rattle.serial_schedule.specs.declared.duties.Subscription.{Subscription}
-use Rattle.serial_schedule.specs.declared.duties.Duty.{Duty}
-use Rattle.serial_schedule.specs.declared.duties.Duty.TheVariants.{Give, DeliverAll, MakeCall}
-use Rattle.serial_schedule.specs.Courses.{asked, beginning, client_of, course_of, following, following_on, found, last_number, reading_at, request, requested, with_entry}
-use Rattle.serial_schedule.specs.Scheduling.{Scheduled, Waiting, taken}
-use Rattle.serial_schedule.specs.Streams.{is_taken, moved_on, nothing_taken, stream_of, wants_more}
+use Rattle.schedule_model.specs.declared.courses.Course.{Course}
+use Rattle.schedule_model.specs.declared.courses.Course.TheVariants.{Replies, GoesOn, Takes, Completes, Ends}
+use Rattle.schedule_model.specs.declared.duties.Awaited.{Awaited}
+use Rattle.schedule_model.specs.declared.duties.Awaited.TheVariants.{Storing, Requesting, Reading, Streaming, StreamingOn, Last}
+use Rattle.schedule_model.specs.declared.duties.Subscription.{Subscription}
+use Rattle.schedule_model.specs.declared.duties.Duty.{Duty}
+use Rattle.schedule_model.specs.declared.duties.Duty.TheVariants.{Give, DeliverAll, MakeCall}
+use Rattle.schedule_model.specs.Courses.{asked, beginning, client_of, course_of, following, following_on, found, last_number, reading_at, request, requested, with_entry}
+use Rattle.schedule_model.specs.Scheduling.{Scheduled, Waiting, taken}
+use Rattle.schedule_model.specs.Streams.{is_taken, moved_on, nothing_taken, stream_of, wants_more}
 use Rattle.subscriber.specs.Following.{Following, after_offer}
 use Rattle.quiet_model.specs.Moments.{Moment}
 use Rattle.quiet_law.specs.Going.{DoneThen, Goes}

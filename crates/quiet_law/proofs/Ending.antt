@@ -24,15 +24,15 @@ use Rattle.node_model.specs.NodeState.{NodeState, Storing, Gathering, Ordering, 
 use Rattle.node_model.specs.OrdererNode.{Mode, known_of}
 use Rattle.plain_log.specs.Log.{LogState, after, after_entry, cut_of, drawn as drawn_state, knows, log_of, next_entry, replies_from, standing_of, start, state_after, stored, with_value}
 use Rattle.plain_log.proofs.Joining.{values_stay}
-use Rattle.serial_schedule.specs.declared.duties.Duty.TheVariants.{DeliverAll}
-use Rattle.serial_schedule.specs.declared.duties.Signal.TheVariants.{Lead, Restart}
-use Rattle.serial_schedule.specs.Courses.{beginning}
-use Rattle.serial_schedule.specs.Driven.{replies_of}
-use Rattle.serial_schedule.specs.Duties.{give}
-use Rattle.serial_schedule.specs.Scheduling.{Scheduled, Waiting, at_first, drawn, primaries_after, ready, stream_before, taken}
-use Rattle.serial_schedule.specs.Streams.{nothing_taken}
+use Rattle.schedule_model.specs.declared.duties.Duty.TheVariants.{DeliverAll}
+use Rattle.schedule_model.specs.declared.duties.Signal.TheVariants.{Lead, Restart}
+use Rattle.schedule_model.specs.Courses.{beginning}
+use Rattle.schedule_model.specs.Driven.{replies_of}
+use Rattle.schedule_model.specs.Duties.{give}
+use Rattle.schedule_model.specs.Scheduling.{Scheduled, Waiting, at_first, drawn, primaries_after, ready, stream_before, taken}
+use Rattle.schedule_model.specs.Streams.{nothing_taken}
 use Rattle.subscriber.specs.Following.{Following}
-use Rattle.serial_schedule.proofs.Ready.{ready-begins}
+use Rattle.schedule_model.proofs.Ready.{ready-begins}
 use Rattle.quiet_model.specs.Opening.{IsBeginning, IsOpening, empty_disks}
 use Rattle.quiet_model.specs.Settled.{ListsOf}
 use Rattle.quiet_model.proofs.Gathering.{IsSettledNode}

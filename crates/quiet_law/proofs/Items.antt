@@ -21,9 +21,9 @@ use Rattle.plain_log.specs.Log.{LogState, Primary, after, after_entry, drawn as 
 use Rattle.plain_log.proofs.Coherent.{coherent_after}
 use Rattle.plain_log.proofs.Joining.{values_stay}
 use Rattle.plain_log.proofs.Lists.{replicate-nil}
-use Rattle.serial_schedule.specs.Courses.{beginning, client_of}
-use Rattle.serial_schedule.specs.Scheduling.{drawn, primaries_after, stream_before}
-use Rattle.serial_schedule.specs.Streams.{nothing_taken}
+use Rattle.schedule_model.specs.Courses.{beginning, client_of}
+use Rattle.schedule_model.specs.Scheduling.{drawn, primaries_after, stream_before}
+use Rattle.schedule_model.specs.Streams.{nothing_taken}
 use Rattle.quiet_model.specs.Moments.{Moment}
 use Rattle.quiet_model.specs.Opening.{IsBeginning, IsOpening, no_lists}
 use Rattle.quiet_model.proofs.Beginning.{opened}

@@ -12,12 +12,12 @@ use Rattle.history_frame.specs.declared.inputs.Mark.{Mark}
 use Rattle.node_model.specs.Legal.{AreNext, IsNext}
 use Rattle.node_model.specs.NodeState.{NodeOutcome, node_after, state_or}
 use Rattle.node_model.proofs.Following.{node_here, node_there}
-use Rattle.serial_schedule.specs.declared.duties.Duty.{Duty}
-use Rattle.serial_schedule.specs.declared.turns.Turn.{Turn}
-use Rattle.serial_schedule.specs.Driven.{Follow, after_event, after_events, turn_of}
-use Rattle.serial_schedule.specs.Scheduling.{Scheduled, Step, Waiting, due, first_step, is_done, letters_from, next_turn, noted, ready, rest_in, step, turn_in}
-use Rattle.serial_schedule.proofs.Along.{some_is}
-use Rattle.serial_schedule.proofs.Ready.{passed-stops, ready-due, ready-passed}
+use Rattle.schedule_model.specs.declared.duties.Duty.{Duty}
+use Rattle.schedule_model.specs.declared.turns.Turn.{Turn}
+use Rattle.schedule_model.specs.Driven.{Follow, after_event, after_events, turn_of}
+use Rattle.schedule_model.specs.Scheduling.{Scheduled, Step, Waiting, due, first_step, is_done, letters_from, next_turn, noted, ready, rest_in, step, turn_in}
+use Rattle.schedule_model.proofs.Along.{some_is}
+use Rattle.schedule_model.proofs.Ready.{passed-stops, ready-due, ready-passed}
 use Rattle.quiet_model.specs.Moments.{Moment, Takes}
 use Rattle.quiet_model.specs.Opening.{empty_disks}
 use Rattle.quiet_law.specs.Quiet.{IsQuiet, quiet_mark}

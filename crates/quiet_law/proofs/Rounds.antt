@@ -6,9 +6,9 @@ use Rattle.history_frame.specs.declared.inputs.Call.{Call}
 use Rattle.history_frame.specs.declared.inputs.Input.TheVariants.{Call as ACall}
 use Rattle.history_frame.specs.declared.inputs.Mark.TheVariants.{Done}
 use Rattle.log_base.specs.declared.numbers.NodeId.{NodeId}
-use Rattle.serial_schedule.specs.declared.duties.Awaited.{Awaited}
-use Rattle.serial_schedule.specs.declared.duties.Duty.TheVariants.{MakeCall}
-use Rattle.serial_schedule.specs.Duties.{settling}
+use Rattle.schedule_model.specs.declared.duties.Awaited.{Awaited}
+use Rattle.schedule_model.specs.declared.duties.Duty.TheVariants.{MakeCall}
+use Rattle.schedule_model.specs.Duties.{settling}
 use Rattle.quiet_model.specs.Moments.{IsSettling, Moment, Takes}
 use Rattle.quiet_law.specs.Going.{DoneThen}
 

@@ -25,10 +25,10 @@ use Rattle.node_model.specs.StorageNode.{StorageNode, member_of}
 use Rattle.node_model.specs.StorageRow.{answered, call_row, on_read, read_reply}
 use Rattle.plain_log.specs.Coherent.{IsCoherentState}
 use Rattle.plain_log.specs.Log.{LogState, entries_of, read_in, told_entry}
-use Rattle.serial_schedule.specs.declared.courses.Course.{Course}
-use Rattle.serial_schedule.specs.declared.courses.Course.TheVariants.{GoesOn, Replies}
-use Rattle.serial_schedule.specs.declared.duties.Awaited.TheVariants.{Reading, Last}
-use Rattle.serial_schedule.specs.Courses.{course_of, reading_at}
+use Rattle.schedule_model.specs.declared.courses.Course.{Course}
+use Rattle.schedule_model.specs.declared.courses.Course.TheVariants.{GoesOn, Replies}
+use Rattle.schedule_model.specs.declared.duties.Awaited.TheVariants.{Reading, Last}
+use Rattle.schedule_model.specs.Courses.{course_of, reading_at}
 use Rattle.quiet_model.specs.Moments.{Moment, Takes}
 use Rattle.quiet_model.specs.Settled.{IsReplica, ListsOf, list_at}
 use Rattle.quiet_law.specs.Going.{Goes}

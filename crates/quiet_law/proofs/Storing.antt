@@ -37,11 +37,11 @@ use Rattle.node_model.specs.StorageRow.{answered, ask_reply, call_row, on_ask, o
 use Rattle.plain_log.specs.Log.{LogState, after, after_entry, cut_of, drawn, entries_of, reply_to, standing_of, stored}
 use Rattle.plain_log.proofs.Answering.{append_told, stored_position}
 use Rattle.plain_log.proofs.Pairs.{IsBefore}
-use Rattle.serial_schedule.specs.declared.courses.Course.TheVariants.{GoesOn}
-use Rattle.serial_schedule.specs.declared.duties.Awaited.{Awaited}
-use Rattle.serial_schedule.specs.declared.duties.Awaited.TheVariants.{Last, Storing}
-use Rattle.serial_schedule.specs.Courses.{beginning, client_of, course_of, enquiry, next_number}
-use Rattle.serial_schedule.specs.Duties.{settling}
+use Rattle.schedule_model.specs.declared.courses.Course.TheVariants.{GoesOn}
+use Rattle.schedule_model.specs.declared.duties.Awaited.{Awaited}
+use Rattle.schedule_model.specs.declared.duties.Awaited.TheVariants.{Last, Storing}
+use Rattle.schedule_model.specs.Courses.{beginning, client_of, course_of, enquiry, next_number}
+use Rattle.schedule_model.specs.Duties.{settling}
 use Rattle.quiet_model.specs.Ahead.{IsAhead, with_one_more}
 use Rattle.quiet_model.specs.Moments.{Moment}
 use Rattle.quiet_model.specs.Settled.{AreLists, IsReplica, ListsOf, list_at}

@@ -18,12 +18,12 @@ use Rattle.plain_log.specs.Log.{LogState, read_in}
 use Rattle.plain_log.specs.Streams.{Collected, collected, ended, given_by, subscribed, with_entry}
 use Rattle.plain_log.proofs.Answering.{read_finds, read_past_end}
 use Rattle.plain_log.proofs.Joining.{read_below_mark}
-use Rattle.serial_schedule.specs.declared.courses.Course.{Course}
-use Rattle.serial_schedule.specs.declared.courses.Course.TheVariants.{GoesOn, Takes, Completes, Ends}
-use Rattle.serial_schedule.specs.declared.duties.Awaited.TheVariants.{Streaming, StreamingOn}
-use Rattle.serial_schedule.specs.declared.duties.Subscription.{Subscription}
-use Rattle.serial_schedule.specs.Courses.{course_of, following, following_on, found, with_entry as course_with}
-use Rattle.serial_schedule.specs.Streams.{is_taken, moved_on, stream_of, subscription_at, wants_more}
+use Rattle.schedule_model.specs.declared.courses.Course.{Course}
+use Rattle.schedule_model.specs.declared.courses.Course.TheVariants.{GoesOn, Takes, Completes, Ends}
+use Rattle.schedule_model.specs.declared.duties.Awaited.TheVariants.{Streaming, StreamingOn}
+use Rattle.schedule_model.specs.declared.duties.Subscription.{Subscription}
+use Rattle.schedule_model.specs.Courses.{course_of, following, following_on, found, with_entry as course_with}
+use Rattle.schedule_model.specs.Streams.{is_taken, moved_on, stream_of, subscription_at, wants_more}
 use Rattle.quiet_model.specs.Moments.{Moment}
 use Rattle.quiet_law.specs.Going.{Goes}
 use Rattle.quiet_law.specs.Matching.{Matches}

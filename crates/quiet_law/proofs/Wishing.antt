@@ -13,11 +13,11 @@ use Rattle.node_model.specs.OrdererNode.{Node}
 use Rattle.node_model.specs.OrdererRow.{answered, call_row, finalises_unknown, request_to, settled_reply, on_request, on_settled}
 use Rattle.plain_log.specs.Coherent.{IsCoherentState}
 use Rattle.plain_log.specs.Log.{LogState, told_slot, with_value}
-use Rattle.serial_schedule.specs.declared.courses.Course.TheVariants.{GoesOn}
-use Rattle.serial_schedule.specs.declared.duties.Awaited.{Awaited}
-use Rattle.serial_schedule.specs.declared.duties.Awaited.TheVariants.{Requesting, Last}
-use Rattle.serial_schedule.specs.Courses.{confirmation, course_of, request}
-use Rattle.serial_schedule.specs.Duties.{settling}
+use Rattle.schedule_model.specs.declared.courses.Course.TheVariants.{GoesOn}
+use Rattle.schedule_model.specs.declared.duties.Awaited.{Awaited}
+use Rattle.schedule_model.specs.declared.duties.Awaited.TheVariants.{Requesting, Last}
+use Rattle.schedule_model.specs.Courses.{confirmation, course_of, request}
+use Rattle.schedule_model.specs.Duties.{settling}
 use Rattle.quiet_model.specs.Deciding.{wishing}
 use Rattle.quiet_model.specs.Moments.{Moment}
 use Rattle.quiet_model.specs.Settled.{IsOrderer, IsSettled, ListsOf}

@@ -33,7 +33,7 @@ use Rattle.node_model.specs.OrdererRow.{learned, on_accept, on_accepted, on_lead
 use Rattle.node_model.specs.StorageRow.{on_ask, on_decide, on_read, on_submit, on_tick as storage_tick, outcome as storage_outcome}
 use Rattle.command_frame.specs.Items.{IsItem}
 use Rattle.plain_log.specs.Log.{log_of}
-use Rattle.serial_schedule.specs.Driven.{IsDriven, replies_of}
+use Rattle.schedule_model.specs.Driven.{IsDriven, replies_of}
 use Rattle.quiet_model.specs.Opening.{empty_disks}
 use Rattle.quiet_law.specs.Quiet.{IsQuietRun}
 use Rattle.quiet_law.specs.Worked.{entries, entry, one_of_each, restarted, worked_items, worked_run}

@@ -7,15 +7,15 @@ use Rattle.reply_frame.specs.declared.replies.Reply.{Reply, Nothing}
 use Rattle.subscriber.specs.Following.{Following, after_offer}
 use Rattle.history_frame.specs.declared.inputs.Input.TheVariants.{Call as ACall}
 use Rattle.history_frame.specs.declared.inputs.Mark.TheVariants.{Done}
-use Rattle.serial_schedule.specs.declared.courses.Course.{Course}
-use Rattle.serial_schedule.specs.declared.courses.Course.TheVariants.{Replies, GoesOn, Takes as TakesEntry, Completes, Ends}
-use Rattle.serial_schedule.specs.declared.duties.Awaited.{Awaited}
-use Rattle.serial_schedule.specs.declared.duties.Duty.{Duty}
-use Rattle.serial_schedule.specs.declared.duties.Duty.TheVariants.{Give, DeliverAll, MakeCall}
-use Rattle.serial_schedule.specs.Courses.{beginning, course_of}
-use Rattle.serial_schedule.specs.Duties.{signal_input}
-use Rattle.serial_schedule.specs.Scheduling.{drawn, primaries_after, stream_before}
-use Rattle.serial_schedule.specs.Streams.{nothing_taken, stream_of}
+use Rattle.schedule_model.specs.declared.courses.Course.{Course}
+use Rattle.schedule_model.specs.declared.courses.Course.TheVariants.{Replies, GoesOn, Takes as TakesEntry, Completes, Ends}
+use Rattle.schedule_model.specs.declared.duties.Awaited.{Awaited}
+use Rattle.schedule_model.specs.declared.duties.Duty.{Duty}
+use Rattle.schedule_model.specs.declared.duties.Duty.TheVariants.{Give, DeliverAll, MakeCall}
+use Rattle.schedule_model.specs.Courses.{beginning, course_of}
+use Rattle.schedule_model.specs.Duties.{signal_input}
+use Rattle.schedule_model.specs.Scheduling.{drawn, primaries_after, stream_before}
+use Rattle.schedule_model.specs.Streams.{nothing_taken, stream_of}
 use Rattle.quiet_model.specs.Moments.{AreDelivered, Moment, TakeInTurn, Takes}
 
 -- Duties are done up to a call and its answer, no disk fails, and so it goes on.

@@ -14,7 +14,7 @@ use Rattle.paxos_model.specs.Leader.{slot_limit}
 use Rattle.node_model.specs.Legal.{IsLegal}
 use Rattle.node_model.specs.NodeState.{NodeState, Storing, Gathering, Ordering, node_after}
 use Rattle.node_model.specs.OrdererNode.{known_of}
-use Rattle.serial_schedule.specs.Driven.{IsDriven}
+use Rattle.schedule_model.specs.Driven.{IsDriven}
 use Rattle.quiet_model.specs.Moments.{Moment}
 use Rattle.quiet_model.specs.Opening.{empty_disks}
 

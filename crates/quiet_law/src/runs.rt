@@ -7,7 +7,7 @@ ghost use Rattle.paxos_model.specs.Leader.{slot_limit};
 ghost use Rattle.command_frame.specs.declared.items.Item.{Item};
 ghost use Rattle.history_frame.specs.declared.events.Event.{Event};
 ghost use Rattle.plain_log.specs.Log.{log_of, start, state_after};
-ghost use Rattle.serial_schedule.specs.Driven.{replies_of};
+ghost use Rattle.schedule_model.specs.Driven.{replies_of};
 ghost use Rattle.quiet_law.specs.Matching.{Matches};
 ghost use Rattle.quiet_law.specs.Quiet.{HasSlots, IsQuietRun, moment_after};
 

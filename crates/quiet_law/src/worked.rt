@@ -3,7 +3,7 @@
 ghost use Rattle.std.specs.Prelude.{◌≡◌, [], ◌∷◌};
 ghost use Rattle.reply_frame.specs.declared.replies.Reply.{At, Found, Settled};
 ghost use Rattle.plain_log.specs.Log.{log_of};
-ghost use Rattle.serial_schedule.specs.Driven.{replies_of};
+ghost use Rattle.schedule_model.specs.Driven.{replies_of};
 ghost use Rattle.quiet_law.specs.Quiet.{IsQuietRun};
 ghost use Rattle.quiet_law.specs.Worked.{entry, one_of_each, worked_items, worked_run};
 

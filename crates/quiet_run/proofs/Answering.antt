@@ -5,7 +5,7 @@ use Rattle.reply_frame.specs.Replies.{IsNodeAnswer, IsReply}
 use Rattle.history_frame.specs.declared.inputs.Input.{Input}
 use Rattle.history_frame.specs.declared.inputs.Input.TheVariants.{Deliver, Call as ACall, Tick, Lead, Stop, Restart}
 use Rattle.history_frame.specs.declared.inputs.Mark.{Mark}
-use Rattle.serial_schedule.specs.Keeping.{IsSingle}
+use Rattle.schedule_model.specs.Streams.{IsSingle}
 use Rattle.node_model.specs.Marks.{ChangeOf, NodeOf, OutcomeOf, RoleOf, to_call}
 use Rattle.node_model.specs.Turning.{Turned, Ran, Fell, Slept, Stopped_now, Opened, Opened_more}
 

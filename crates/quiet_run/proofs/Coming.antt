@@ -24,7 +24,7 @@ use Rattle.node_model.proofs.Following.{grown}
 use Rattle.agreement_law.specs.Elements.{In}
 use Rattle.agreement_law.proofs.Bridge.{sent_before, sent_in-push}
 use Rattle.agreement_law.proofs.Elements.{got_in, in_right}
-use Rattle.serial_schedule.specs.Calling.{IsNoLetter}
+use Rattle.schedule_model.specs.Calling.{IsNoLetter}
 use Rattle.safety_law.proofs.Corollaries.{letters_fit}
 use Rattle.safety_law.proofs.History.{event_fits, history_fits}
 use Rattle.safety_law.proofs.Reported.{all_of}

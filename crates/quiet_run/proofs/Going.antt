@@ -7,10 +7,10 @@ use Rattle.history_frame.specs.declared.events.Event.{Event}
 use Rattle.history_frame.specs.declared.events.Happened.{Happened}
 use Rattle.history_frame.specs.Spelling.{event_size}
 use Rattle.node_model.specs.Machine.{ClusterNode}
-use Rattle.serial_schedule.specs.declared.turns.Turn.{Turn}
-use Rattle.serial_schedule.specs.Driven.{next_turn_after}
-use Rattle.serial_schedule.specs.Scheduling.{Scheduled, Step, given, next_step, next_turn, noted, ready, rest_in, turn_in}
-use Rattle.serial_schedule.proofs.RunLaws.{event_more}
+use Rattle.schedule_model.specs.declared.turns.Turn.{Turn}
+use Rattle.schedule_model.specs.Driven.{next_turn_after}
+use Rattle.schedule_model.specs.Scheduling.{Scheduled, Step, given, next_step, next_turn, noted, ready, rest_in, turn_in}
+use Rattle.schedule_model.proofs.RunLaws.{event_more}
 use Rattle.quiet_run.specs.declared.outcomes.DriveStop.TheVariants.{Limit, Memory}
 use Rattle.quiet_run.specs.declared.running.Running.{Running}
 use Rattle.shard_replica.specs.Lists.{Medium}

@@ -12,15 +12,15 @@ use Rattle.node_model.specs.Legal.{IsNext, submitted}
 use Rattle.node_model.specs.Machine.{ClusterNode, node_meanings}
 use Rattle.node_model.specs.NodeState.{node_after}
 use Rattle.node_table.specs.Numbering.{nodes_of, role_at}
-use Rattle.serial_schedule.specs.declared.duties.Duty.{Duty}
-use Rattle.serial_schedule.specs.declared.duties.Duty.TheVariants.{Give, DeliverAll, MakeCall}
-use Rattle.serial_schedule.specs.declared.turns.Turn.{Turn}
-use Rattle.serial_schedule.specs.Driven.{IsFollowed, next_turn_after, scheduled_after, turn_of}
-use Rattle.serial_schedule.specs.Keeping.{IsSingle}
-use Rattle.serial_schedule.specs.Scheduling.{Scheduled, Waiting, at_first, delivery, first_step, given, ready, rest_in}
-use Rattle.serial_schedule.proofs.Kept.{each-append}
-use Rattle.serial_schedule.proofs.Posted.{events-posted, first-posted-is, ready-posted}
-use Rattle.serial_schedule.proofs.RunLaws.{event_agrees, followed_more, turn_allowed, turn_delivered, turn_of_run}
+use Rattle.schedule_model.specs.declared.duties.Duty.{Duty}
+use Rattle.schedule_model.specs.declared.duties.Duty.TheVariants.{Give, DeliverAll, MakeCall}
+use Rattle.schedule_model.specs.declared.turns.Turn.{Turn}
+use Rattle.schedule_model.specs.Driven.{IsFollowed, next_turn_after, scheduled_after, turn_of}
+use Rattle.schedule_model.specs.Streams.{IsSingle}
+use Rattle.schedule_model.specs.Scheduling.{Scheduled, Waiting, at_first, delivery, first_step, given, ready, rest_in}
+use Rattle.schedule_model.proofs.Kept.{each-append}
+use Rattle.schedule_model.proofs.Posted.{events-posted, first-posted-is, ready-posted}
+use Rattle.schedule_model.proofs.RunLaws.{event_agrees, followed_more, turn_allowed, turn_delivered, turn_of_run}
 use Rattle.quiet_run.specs.Runs.{IsRunSoFar}
 use Rattle.quiet_run.specs.Standing.{IsJob, Job, StandAfter, node_of}
 use Rattle.quiet_run.specs.Turns.{IsAt, TakesTurn}

@@ -7,7 +7,7 @@ use Rattle.history_frame.specs.declared.events.Event.{Event}
 use Rattle.log_base.specs.ClusterShape.{InRange, Shape}
 use Rattle.node_model.specs.NodeState.{NodeState, Storing, Gathering, Ordering, node_after}
 use Rattle.node_table.specs.Numbering.{nodes_of, orderer_node}
-use Rattle.serial_schedule.specs.Driven.{next_turn_after}
+use Rattle.schedule_model.specs.Driven.{next_turn_after}
 use Rattle.quiet_model.specs.Opening.{empty_disks}
 use Rattle.quiet_law.specs.Quiet.{HasSlots, known_at}
 use Rattle.quiet_run.specs.Limits.{bytes_of, event_limit, is_one_from, is_one_full, known_by, limit_of, value_limit}

@@ -15,9 +15,9 @@ use Rattle.log_base.specs.Shape.{shape}
 use Rattle.node_model.specs.Legal.{AreNext, IsLawful, IsLegal}
 use Rattle.node_model.specs.NodeState.{KeptLists}
 use Rattle.node_model.specs.Sound.{payloads_on}
-use Rattle.serial_schedule.specs.Driven.{replies_of}
-use Rattle.serial_schedule.specs.Streams.{stream_of}
-use Rattle.serial_schedule.proofs.Replying.{IsNotFound, IsStream, replies-good}
+use Rattle.schedule_model.specs.Driven.{replies_of}
+use Rattle.schedule_model.specs.Streams.{stream_of}
+use Rattle.schedule_model.proofs.Replying.{IsNotFound, IsStream, replies-good}
 use Rattle.subscriber.specs.Following.{Following}
 use Rattle.quiet_run.specs.Spelled.{AreKept}
 use Rattle.quiet_run.proofs.Coming.{legal_push, next_answers}

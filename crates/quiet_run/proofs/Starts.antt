@@ -21,8 +21,8 @@ use Rattle.node_model.specs.OrdererRow.{orderer_role, outcome as orderer_outcome
 use Rattle.node_model.specs.StorageNode.{member_of}
 use Rattle.node_model.specs.StorageRow.{storage_role, outcome as storage_outcome}
 use Rattle.node_model.proofs.Following.{next_at}
-use Rattle.serial_schedule.specs.Driven.{IsFollowed}
-use Rattle.serial_schedule.proofs.Starting.{first_starts}
+use Rattle.schedule_model.specs.Driven.{IsFollowed}
+use Rattle.schedule_model.proofs.Starting.{first_starts}
 use Rattle.shard_replica.specs.Lists.{Medium}
 use Rattle.quiet_run.specs.Causes.{AllKeep, BeginWithStarts, HaveCauses, NoneRose, StartsAreClean, failures, journals_at, media_at, shows_failure}
 use Rattle.quiet_run.specs.Standing.{Job}

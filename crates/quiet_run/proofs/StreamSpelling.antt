@@ -8,8 +8,8 @@ use Rattle.reply_frame.specs.declared.replies.Reply.{Reply, Nothing, Stored, At,
 use Rattle.reply_frame.specs.Replies.{HasSpelling, IsNodeAnswer, IsShort, entry_bytes, reply_bytes}
 use Rattle.subscriber.specs.Following.{Following}
 use Rattle.command_frame.specs.Streams.{unplaced}
-use Rattle.serial_schedule.specs.Streams.{stream_of}
-use Rattle.serial_schedule.proofs.Replying.{IsNotFound, IsStream, WasFound}
+use Rattle.schedule_model.specs.Streams.{stream_of}
+use Rattle.schedule_model.proofs.Replying.{IsNotFound, IsStream, WasFound}
 
 -- an answer that is no entry has nine bytes at most
 short_answer : (reply : Reply) → IsNodeAnswer reply → IsNotFound reply → length (reply_bytes reply) ≤ 9

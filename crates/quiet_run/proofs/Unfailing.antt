@@ -14,7 +14,7 @@ use Rattle.node_model.specs.Legal.{IsLawful, IsLegal}
 use Rattle.node_model.specs.Sound.{payloads_on}
 use Rattle.node_table.specs.Numbering.{nodes_of}
 use Rattle.plain_log.specs.Log.{log_of}
-use Rattle.serial_schedule.specs.Driven.{IsDriven, replies_of}
+use Rattle.schedule_model.specs.Driven.{IsDriven, replies_of}
 use Rattle.shard_replica.specs.Lists.{Medium}
 use Rattle.quiet_law.specs.Quiet.{IsQuietRun}
 use Rattle.quiet_law.proofs.Ending.{run_ended}

@@ -5,7 +5,7 @@ use Rattle.history_frame.specs.declared.events.Event.{Event}
 use Rattle.history_frame.specs.Spelling.{event_size}
 use Rattle.node_model.specs.NodeState.{node_after}
 use Rattle.node_table.specs.Numbering.{nodes_of}
-use Rattle.serial_schedule.specs.Driven.{next_turn_after}
+use Rattle.schedule_model.specs.Driven.{next_turn_after}
 use Rattle.core_step.specs.Known.{known_count}
 use Rattle.quiet_run.specs.Standing.{Job}
 

@@ -8,10 +8,10 @@ use Rattle.log_base.specs.declared.numbers.NodeId.{NodeId}
 use Rattle.log_base.specs.ClusterShape.{Shape}
 use Rattle.log_base.specs.Shape.{shape}
 use Rattle.node_model.specs.Machine.{ClusterNode}
-use Rattle.serial_schedule.specs.declared.turns.Turn.{Turn}
-use Rattle.serial_schedule.specs.Driven.{next_turn_after, replies_of, scheduled_after}
-use Rattle.serial_schedule.specs.Keeping.{IsSingle}
-use Rattle.serial_schedule.specs.Scheduling.{Scheduled, given, noted}
+use Rattle.schedule_model.specs.declared.turns.Turn.{Turn}
+use Rattle.schedule_model.specs.Driven.{next_turn_after, replies_of, scheduled_after}
+use Rattle.schedule_model.specs.Streams.{IsSingle}
+use Rattle.schedule_model.specs.Scheduling.{Scheduled, given, noted}
 use Rattle.quiet_run.specs.declared.running.Running.{Running}
 use Rattle.shard_replica.specs.Lists.{Medium}
 use Rattle.quiet_run.specs.declared.outcomes.DriveStop.{DriveStop}

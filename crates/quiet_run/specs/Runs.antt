@@ -7,7 +7,7 @@ use Rattle.node_model.specs.Legal.{IsLegal}
 use Rattle.node_model.specs.Machine.{ClusterNode}
 use Rattle.node_model.specs.NodeState.{node_after}
 use Rattle.node_table.specs.Numbering.{nodes_of}
-use Rattle.serial_schedule.specs.Driven.{IsFollowed}
+use Rattle.schedule_model.specs.Driven.{IsFollowed}
 use Rattle.quiet_run.specs.declared.outcomes.DriveStop.{DriveStop}
 use Rattle.quiet_run.specs.declared.outcomes.DriveStop.TheVariants.{Limit, Memory}
 use Rattle.core_step.specs.Known.{known_chain, known_count}

@@ -8,7 +8,7 @@ use Rattle.node_model.specs.Machine.{ClusterNode}
 use Rattle.node_model.specs.NodeState.{KeptLists, node_after}
 use Rattle.node_model.specs.Sound.{IsSound, payloads_on}
 use Rattle.node_table.specs.Numbering.{nodes_of}
-use Rattle.serial_schedule.specs.Calling.{IsRun}
+use Rattle.schedule_model.specs.Calling.{IsRun}
 
 -- A run: its config and its number, the items that it serves, and what the disks kept before it.
 pub record Job : Type 0 where

@@ -10,7 +10,7 @@ ghost use Rattle.node_model.specs.Legal.{IsLawful};
 ghost use Rattle.node_model.specs.Sound.{IsSound, payloads_on};
 ghost use Rattle.plain_log.specs.Log.{log_of};
 ghost use Rattle.reply_frame.specs.Replies.{HasSpelling};
-ghost use Rattle.serial_schedule.specs.Driven.{IsDriven, replies_of};
+ghost use Rattle.schedule_model.specs.Driven.{IsDriven, replies_of};
 ghost use Rattle.command_frame.specs.Streams.{unplaced};
 ghost use Rattle.quiet_run.specs.Causes.{AllCountOn, BeginWithStarts, HaveCauses, StartsAreClean, node_media};
 ghost use Rattle.quiet_run.specs.Running.{CausesGoOn, IsOver, IsUnderWay, StopsWith, job_of};

@@ -15,7 +15,7 @@ use core_step::Node;
 use cut_chain::Places;
 use log_base::{Memory, Outbox};
 use segment_journal::Journal;
-use serial_schedule::Turn;
+use schedule_model::Turn;
 
 impl<'a> Running<'a> {
     /// The next turn, if one comes. Whether one came is answered.

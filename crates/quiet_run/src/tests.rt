@@ -9,7 +9,7 @@ ghost use Rattle.core_step.specs.Starting.{IsOrderer, IsStorage};
 ghost use Rattle.log_base.specs.Shape.{shape};
 ghost use Rattle.node_table.specs.Numbering.{nodes_of, role_at};
 ghost use Rattle.segment_journal.specs.Journalled.{loaded};
-ghost use Rattle.serial_schedule.specs.Worked.{two_by_two};
+ghost use Rattle.schedule_model.specs.Worked.{two_by_two};
 ghost use Rattle.quiet_run.specs.Tested.{AreEmpty, AreFirst, first_node};
 
 use crate::*;

@@ -30,10 +30,10 @@ use Rattle.node_table.specs.declared.role.Role.{Role}
 use Rattle.node_table.specs.declared.role.Role.TheVariants.{Storage, Gatherer, Orderer}
 use Rattle.paxos_model.specs.Payloads.{payload_in, payload_spelling}
 use Rattle.paxos_model.specs.Votes.{Payload, Promise, Voted}
-use Rattle.serial_schedule.specs.Driven.{Follow, IsFollowed, after_event, after_events, replies_of}
-use Rattle.serial_schedule.specs.Scheduling.{Scheduled, at_first, next_turn}
-use Rattle.serial_schedule.specs.Streams.{stream_of}
-use Rattle.serial_schedule.proofs.Replying.{IsNotFound, IsStream, WasFound}
+use Rattle.schedule_model.specs.Driven.{Follow, IsFollowed, after_event, after_events, replies_of}
+use Rattle.schedule_model.specs.Scheduling.{Scheduled, at_first, next_turn}
+use Rattle.schedule_model.specs.Streams.{stream_of}
+use Rattle.schedule_model.proofs.Replying.{IsNotFound, IsStream, WasFound}
 use Rattle.subscriber.specs.Following.{Following}
 use Rattle.quiet_run.specs.Limits.{bytes_of, byte_limit, is_one_full, limit_of, limit_passed}
 use Rattle.quiet_run.specs.Runs.{IsWithinLimits}

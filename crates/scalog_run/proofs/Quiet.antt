@@ -22,7 +22,7 @@ use Rattle.reply_frame.specs.declared.faults.ItemFault.{ItemFault}
 use Rattle.reply_frame.specs.declared.faults.ItemFault.TheVariants.{Bad, Read, Many, Memory as NoSpace}
 use Rattle.reply_frame.specs.declared.replies.Reply.{Reply}
 use Rattle.segment_journal.specs.File.{recovered}
-use Rattle.serial_schedule.specs.Driven.{replies_of}
+use Rattle.schedule_model.specs.Driven.{replies_of}
 use Rattle.cluster_disks.specs.declared.stop.OpenStop.{OpenStop}
 use Rattle.cluster_disks.specs.declared.stop.OpenStop.TheVariants.{Unopened as NotOpened, BadDisk as IsBad, TooManyKept, Memory as NoRoom}
 use Rattle.cluster_disks.specs.Failing.{IsRejected, OpensNot}

@@ -9,7 +9,7 @@ use Rattle.quiet_run.specs.declared.outcomes.Driven.{Driven}
 use Rattle.quiet_run.specs.Runs.{IsKnownAtMost}
 use Rattle.quiet_run.specs.Standing.{job}
 use Rattle.reply_frame.specs.declared.replies.Reply.{Reply}
-use Rattle.serial_schedule.specs.Driven.{replies_of}
+use Rattle.schedule_model.specs.Driven.{replies_of}
 use Rattle.scalog_run.specs.declared.report.Report.{Report}
 use Rattle.scalog_run.specs.declared.report.Report.TheVariants.{Full, Brief}
 use Rattle.scalog_run.specs.Output.{reply_frames}

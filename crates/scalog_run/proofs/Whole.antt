@@ -27,7 +27,7 @@ use Rattle.sequence_law.proofs.Agreeing.{one_list}
 use Rattle.sequence_law.proofs.Concluding.{acknowledged, refused}
 use Rattle.sequence_law.proofs.Founded.{all_owned}
 use Rattle.sequence_law.proofs.Reading.{pending_unknown, reads_agree}
-use Rattle.serial_schedule.specs.Driven.{IsDriven, replies_of}
+use Rattle.schedule_model.specs.Driven.{IsDriven, replies_of}
 use Rattle.stream_law.proofs.Standing.{streams_agree_with}
 use Rattle.cluster_disks.specs.declared.stop.OpenStop.{OpenStop}
 use Rattle.cluster_disks.specs.Failing.{IsRejected, OpensNot}

@@ -15,7 +15,7 @@ use Rattle.node_model.specs.Sound.{IsSound, payloads_on}
 use Rattle.plain_log.specs.Log.{log_of}
 use Rattle.segment_journal.specs.File.{recovered}
 use Rattle.sequence_law.specs.Safe.{IsSafe}
-use Rattle.serial_schedule.specs.Driven.{IsDriven, IsFollowed, replies_of}
+use Rattle.schedule_model.specs.Driven.{IsDriven, IsFollowed, replies_of}
 use Rattle.stream_law.specs.Streams.{StreamsAgree}
 use Rattle.cluster_disks.specs.declared.stop.OpenStop.{OpenStop}
 use Rattle.cluster_disks.specs.Failing.{IsRejected, OpensNot}

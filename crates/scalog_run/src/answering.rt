@@ -6,7 +6,7 @@ ghost use Rattle.command_frame.specs.Items.{IsItem};
 ghost use Rattle.command_frame.specs.Streams.{unplaced};
 ghost use Rattle.reply_frame.specs.Replies.{HasSpelling};
 ghost use Rattle.log_base.specs.Shape.{shape};
-ghost use Rattle.serial_schedule.specs.Driven.{replies_of};
+ghost use Rattle.schedule_model.specs.Driven.{replies_of};
 ghost use Rattle.cluster_disks.specs.Lent.{IsDisk, StaysBut, disks, lain};
 ghost use Rattle.cluster_disks.specs.Opened.{AreLater};
 ghost use Rattle.quiet_run.specs.Runs.{IsKnownAtMost};

@@ -1,18 +1,22 @@
 -- Lanes draw in turn: what one draws leaves the others as they are.
-use Rattle.std.proofs.Common.{◌≡◌, ℕ, zero, suc, ◌+◌, ◌-◌, ◌<◌, List, [], ◌∷◌, length, length-append, get_or, set, Option, Some, None, refl, sym, ap, ◌∙◌, subst, inl, inr, arith}
+use Rattle.std.proofs.Common.{Bor, map, ◌≡◌, ℕ, zero, suc, ◌+◌, ◌-◌, ◌<◌, List, [], ◌∷◌, length, length-append, get_or, set, Option, Some, None, refl, sym, ap, ◌∙◌, subst, inl, inr, arith}
 use Rattle.std.specs.Prelude.{slice_index_or, IfSome}
 use Rattle.std.proofs.Math.ListN.{get_or-map}
 use Rattle.std.proofs.Math.Seq.{get_or-append_seam}
 use Rattle.std.proofs.lemmas.Bool.{cases_eq}
-use Rattle.std.proofs.lemmas.List.{get_or_append_left, get_or-set_same, get_or-set_other, length-set, map-set}
+use Rattle.std.proofs.lemmas.List.{get_or_append_left, get_or_default, get_or-set_same, get_or-set_other, length-set, map-set}
 use Rattle.log_base.specs.declared.numbers.Client.{Client}
 use Rattle.log_base.specs.declared.numbers.NodeId.{NodeId}
 use Rattle.log_base.specs.declared.numbers.Number.{Number}
 use Rattle.log_base.specs.Draws.{number_of_draw}
 use Rattle.client_session.specs.declared.pair.Pair.{Pair}
 use Rattle.client_session.specs.Sessions.{Drawing, after_draw, fresh, pair_at}
-use Rattle.serial_schedule.specs.Courses.{asked, client_of, last_number, next_number, submission}
-use Rattle.serial_schedule.specs.Lanes.{AreLanes, asked_of, draws_of, fresh_lanes, lane_at, node_of, primaries_of, run_of, submitted}
+use Rattle.fault_script.specs.declared.fault.Fault.{Fault}
+use Rattle.log_base.specs.ClusterShape.{Shape}
+use Rattle.schedule_model.specs.declared.courses.Course.{Course}
+use Rattle.schedule_model.specs.Courses.{Scene, asked, client_of, last_number, line_course, next_number, resubmitted, submission}
+use Rattle.serial_schedule.specs.Lanes.{AreLanes, draws_of, fresh_lanes, lane_at, node_of, primaries_of, run_of, submitted}
+use Rattle.item_course.specs.Pairs.{asked_of, sent_again}
 
 -- ---- one lane of all
 
@@ -91,6 +95,54 @@ asked_is lanes lane h low drawn = by (lane_at lanes lane).last drawn ∙ ap (λ 
         let client : pair.client ≡ client_of lane = ap (λ (p : Pair). p.client) drawn ∙ ap client_at (h.client lane low) in
         let told : pair.number ≡ last_number (run_of lanes) (draws_of lanes) lane = ap (λ (p : Pair). p.number) drawn ∙ number in
         ap (λ (c : Client). asked c pair.number (Some pair.node)) client ∙ ap (λ (n : Number). asked (client_of lane) n (Some pair.node)) told
+
+-- a lane's last append is sent again under its pair
+pub sent_is : (lanes : List Drawing) (lane : ℕ) (bytes : List ℕ) → AreLanes lanes → lane < 64
+    → IfSome (lane_at lanes lane).last (λ pair. pair ≡ pair_at (lane_at lanes lane).client (lane_at lanes lane).run ((lane_at lanes lane).draws - 1) pair.node.0)
+    → sent_again (lane_at lanes lane).last bytes
+    ≡ resubmitted (client_of lane) (last_number (run_of lanes) (draws_of lanes) lane) bytes (slice_index_or (primaries_of lanes) lane None)
+sent_is lanes lane bytes h low drawn =
+    by (lane_at lanes lane).last drawn
+    ∙ ap (resubmitted (client_of lane) (last_number (run_of lanes) (draws_of lanes) lane) bytes) (sym (primary_at lanes lane))
+  where
+    number : number_at (number_of_draw (lane_at lanes lane).run ((lane_at lanes lane).draws - 1)) ≡ last_number (run_of lanes) (draws_of lanes) lane
+    number =
+        ap (λ (run : ℕ). number_at (number_of_draw run ((lane_at lanes lane).draws - 1))) (h.of_run lane low)
+        ∙ ap (λ (draws : ℕ). number_at (number_of_draw (run_of lanes) (draws - 1))) (sym (draws_at lanes lane))
+
+    by : (last : Option Pair)
+        → IfSome last (λ pair. pair ≡ pair_at (lane_at lanes lane).client (lane_at lanes lane).run ((lane_at lanes lane).draws - 1) pair.node.0)
+        → sent_again last bytes ≡ resubmitted (client_of lane) (last_number (run_of lanes) (draws_of lanes) lane) bytes (node_of last)
+    by None drawn = refl
+    by (Some pair) drawn =
+        let client : pair.client ≡ client_of lane = ap (λ (p : Pair). p.client) drawn ∙ ap client_at (h.client lane low) in
+        let told : pair.number ≡ last_number (run_of lanes) (draws_of lanes) lane = ap (λ (p : Pair). p.number) drawn ∙ number in
+        ap (λ (c : Client). resubmitted c pair.number bytes (Some pair.node)) client
+        ∙ ap (λ (n : Number). resubmitted (client_of lane) n bytes (Some pair.node)) told
+
+-- what a line does there
+pub line_is : (config : Shape) (scene : Scene) (lanes : List Drawing) (lane : ℕ) (last : Option Pair) (bytes : List ℕ) (f : Fault) → AreLanes lanes → lane < 64
+    → last ≡ (lane_at lanes lane).last
+    → IfSome last (λ pair. pair ≡ pair_at (lane_at lanes lane).client (lane_at lanes lane).run ((lane_at lanes lane).draws - 1) pair.node.0)
+    → bytes ≡ slice_index_or scene.records lane []
+    → line_course config scene (sent_again last bytes) f
+    ≡ line_course config scene
+    (resubmitted (client_of lane) (last_number (run_of lanes) (draws_of lanes) lane) (slice_index_or scene.records lane []) (slice_index_or (primaries_of lanes) lane None)) f
+line_is config scene lanes lane last bytes f h low last_is drawn bytes_are =
+    let shown = λ (some : Option Pair).
+    IfSome some (λ pair. pair ≡ pair_at (lane_at lanes lane).client (lane_at lanes lane).run ((lane_at lanes lane).draws - 1) pair.node.0) in
+    ap (λ (again : Course). line_course config scene again f)
+    (ap (λ (some : Option Pair). sent_again some bytes) last_is
+    ∙ ap (sent_again (lane_at lanes lane).last) bytes_are
+    ∙ sent_is lanes lane (slice_index_or scene.records lane []) h low (subst shown last_is drawn))
+
+-- the record of a lane, as it is lent
+pub lent_at : (records : List (Bor (List ℕ))) (lane place : ℕ) (lent : Bor (List ℕ)) → lent ≡ get_or records place lent → place ≡ lane
+    → length (map (λ (r : Bor (List ℕ)). r.now) records) ≡ 64 → lane < 64 → lent.now ≡ slice_index_or (map (λ (r : Bor (List ℕ)). r.now) records) lane []
+lent_at records lane place lent is same all low =
+    ap (λ (r : Bor (List ℕ)). r.now) (is ∙ ap (λ (n : ℕ). get_or records n lent) same)
+    ∙ sym (get_or-map (λ (r : Bor (List ℕ)). r.now) records lane lent)
+    ∙ get_or_default (map (λ (r : Bor (List ℕ)). r.now) records) lane lent.now [] (omega (arith, all, low))
 
 -- ---- nothing is drawn yet
 

@@ -1,13 +1,13 @@
 -- Replies without the places where the last answers of streams stand, as they are put behind others.
 use Rattle.std.proofs.Common.{◌≡◌, ℕ, List, [], ◌∷◌, ◌++◌, map, refl, ap, ◌∙◌}
-use Rattle.std.proofs.lemmas.List.{map-append}
+use Rattle.std.specs.Prelude.{slice_set}
+use Rattle.std.proofs.lemmas.List.{map-append, map-set}
 use Rattle.std.specs.Global.{Box}
 use Rattle.log_base.specs.declared.numbers.Position.{Position}
 use Rattle.record_frame.specs.declared.entries.Entry.{Entry}
 use Rattle.reply_frame.specs.declared.replies.Reply.{Reply, Stream'}
-use Rattle.serial_schedule.specs.Keeping.{IsSingle}
+use Rattle.schedule_model.specs.Streams.{IsSingle, stream_of}
 use Rattle.command_frame.specs.Streams.{nowhere, unplaced}
-use Rattle.serial_schedule.specs.Streams.{stream_of}
 use Rattle.subscriber.specs.Following.{Following}
 
 unplaced-single : (reply : Reply) → IsSingle reply → unplaced reply ≡ reply
@@ -28,3 +28,9 @@ pushed-stream replies all from entries at last taken e first items =
     pushed replies all (Stream' from entries at last) e
     ∙ ap (λ (n : ℕ). map unplaced replies ++ Stream' (record { 0 = n }) entries nowhere last ∷ []) first
     ∙ ap (λ (es : List Entry). map unplaced replies ++ Stream' (record { 0 = taken.from }) es nowhere last ∷ []) items
+
+-- a reply that takes the place of another holds none
+pub placed-single : (replies all : List Reply) (item : ℕ) (reply : Reply) → all ≡ slice_set replies item reply → IsSingle reply
+    → map unplaced all ≡ slice_set (map unplaced replies) item reply
+placed-single replies all item reply e single =
+    ap (map unplaced) e ∙ map-set unplaced replies item reply ∙ ap (slice_set (map unplaced replies) item) (unplaced-single reply single)

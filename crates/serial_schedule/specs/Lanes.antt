@@ -4,11 +4,8 @@ use Rattle.log_base.specs.declared.numbers.NodeId.{NodeId}
 use Rattle.log_base.specs.Draws.{number_of_draw}
 use Rattle.client_session.specs.declared.pair.Pair.{Pair}
 use Rattle.client_session.specs.Sessions.{Drawing, fresh}
-use Rattle.reply_frame.specs.declared.replies.Reply.{NothingKept}
-use Rattle.serial_schedule.specs.declared.courses.Course.{Course}
-use Rattle.serial_schedule.specs.declared.courses.Course.TheVariants.{Replies, GoesOn}
-use Rattle.serial_schedule.specs.declared.duties.Duty.{Duty}
-use Rattle.serial_schedule.specs.Courses.{enquiry, submission}
+use Rattle.schedule_model.specs.declared.duties.Duty.{Duty}
+use Rattle.schedule_model.specs.Courses.{submission}
 
 -- the sessions of so many lanes at first: nothing is drawn
 abbrev pub fresh_lanes : ℕ → ℕ → List Drawing
@@ -45,8 +42,3 @@ pub record AreLanes (lanes : List Drawing) : Type 0 where
 -- the submission of a record under the pair that a session draws next, to its primary
 abbrev pub submitted : Drawing → NodeId → List ℕ → Duty
 submitted session primary bytes = submission primary (record { 0 = session.client }) (record { 0 = number_of_draw session.run session.draws }) bytes
-
--- how an item goes that asks where the append of this pair stands
-abbrev pub asked_of : Option Pair → Course
-asked_of None = Replies NothingKept
-asked_of (Some pair) = GoesOn (enquiry pair.node pair.client pair.number ∷ [])

@@ -1,11 +1,4 @@
-pub mod Duties
-pub mod Streams
-pub mod Courses
+pub mod Letters
 pub mod Lanes
-pub mod Scheduling
+pub mod Holds
 pub mod Keeping
-pub mod Noting
-pub mod Driven
-pub mod Calling
-pub mod Worked
-pub mod Starts

@@ -3,30 +3,29 @@
 ghost use Rattle.std.specs.Prelude.{◌≡◌, ◌<◌, ◌∷◌, length, map, slice_set, Some, OnOk, OnErr};
 ghost use Rattle.log_base.specs.Shape.{shape};
 ghost use Rattle.client_session.specs.Sessions.{after_draw};
-ghost use Rattle.command_frame.specs.Items.{IsItem};
+ghost use Rattle.command_frame.specs.Items.{IsItem, IsNoFault};
 ghost use Rattle.command_frame.specs.Streams.{unplaced};
 ghost use Rattle.subscriber.specs.Following.{Following};
-ghost use Rattle.serial_schedule.specs.Courses.{beginning, client_of, reading_at, request, submission};
+ghost use Rattle.schedule_model.specs.Courses.{Scene, beginning, client_of, reading_at, request};
 ghost use Rattle.serial_schedule.specs.Keeping.{HasRoom};
-ghost use Rattle.serial_schedule.specs.Lanes.{AreLanes, asked_of, draws_of, lane_at, primaries_of, run_of, submitted};
-ghost use Rattle.serial_schedule.specs.Noting.{duties_with, replies_with};
-ghost use Rattle.serial_schedule.specs.Scheduling.{drawn, primaries_after, stream_before};
+ghost use Rattle.serial_schedule.specs.Lanes.{AreLanes, draws_of, lane_at, primaries_of, run_of, submitted};
+ghost use Rattle.item_course.specs.Pairs.{asked_of};
+ghost use Rattle.schedule_model.specs.Noting.{duties_with, replies_with};
+ghost use Rattle.schedule_model.specs.Scheduling.{drawn, primaries_after, stream_before};
 
-use crate::calls::{enquiry, reading, request};
-use crate::duties::{Awaited, Duty};
 use crate::lanes::{draw, last_pair};
-use crate::streams::{following, subscription_at};
 use client_session::{Pair, Session};
 use command_frame::{Item, Reply};
-use history_frame::Call;
+use item_course::{enquiry, following, reading, request, submission, subscription_at};
 use log_base::{Bytes, Client, Config, Memory, NodeId, Position, Replica, Shard};
 use node_table::storage;
 use record_frame::Value;
+use schedule_model::{Awaited, Duty};
 use std::alloc::Global;
 use std::collections::VecDeque;
 use subscriber::Subscriber;
 
-/// Begins an item: what it calls for comes before all that is due, or it has its reply at once.
+/// Begins an item that is no fault: what it calls for comes before all that is due, or it has its reply at once.
 pub fn begin_item(
     alloc: Global,
     config: &Config,
@@ -36,15 +35,16 @@ pub fn begin_item(
     replies: &mut Vec<Reply>,
 ) -> Result<(), Memory>
     requires item { IsItem (shape config.now) item.now }
+    requires no_fault { IsNoFault item.now }
     requires lanes { AreLanes lanes.old.items }
     requires room { HasRoom (draws_of lanes.old.items) item.now }
     ensures lanes { OnOk result (AreLanes lanes.new.items × (run_of lanes.new.items ≡ run_of lanes.old.items)) }
     ensures draws { OnOk result (draws_of lanes.new.items ≡ drawn item.now (draws_of lanes.old.items)) }
     ensures primaries { OnOk result (primaries_of lanes.new.items ≡ primaries_after (shape config.now) item.now (primaries_of lanes.old.items)) }
-    ensures duties { OnOk result (duties.new.items ≡ duties_with
-        (Some (beginning (shape config.now) (run_of lanes.old.items) (draws_of lanes.old.items) (primaries_of lanes.old.items) item.now)) duties.old.items) }
-    ensures replies { OnOk result ((taken : Following) → map unplaced replies.new.items ≡ replies_with
-        (Some (beginning (shape config.now) (run_of lanes.old.items) (draws_of lanes.old.items) (primaries_of lanes.old.items) item.now)) taken
+    ensures duties { OnOk result ((scene : Scene) → duties.new.items ≡ duties_with
+        (Some (beginning (shape config.now) (run_of lanes.old.items) (draws_of lanes.old.items) (primaries_of lanes.old.items) scene item.now)) duties.old.items) }
+    ensures replies { OnOk result ((taken : Following) (scene : Scene) → map unplaced replies.new.items ≡ replies_with
+        (Some (beginning (shape config.now) (run_of lanes.old.items) (draws_of lanes.old.items) (primaries_of lanes.old.items) scene item.now)) taken
         (map unplaced replies.old.items)) }
     ensures same_lanes { OnErr result (lanes.new.items ≡ lanes.old.items) }
     ensures same_duties { OnErr result (duties.new.items ≡ duties.old.items) }
@@ -92,6 +92,7 @@ pub fn begin_item(
             duties,
         ),
         Item::Ask { lane } => ask(&last_pair(lanes, *lane), duties, replies),
+        Item::Fault { .. } => unreachable!(),
     }
 }
 
@@ -180,25 +181,6 @@ fn submit(
     let pair = draw(lanes, lane, primary);
     duties.push_front_reserved(submission(&pair, copy));
     Ok(())
-}
-
-/// A record is submitted under a pair, to its node.
-fn submission(pair: &Pair, bytes: Vec<u8>) -> Duty
-    ensures { result ≡ submission pair.now.node pair.now.client pair.now.number bytes.items }
-{
-    Duty::MakeCall {
-        node: pair.node,
-        call: Call::Submit {
-            client: pair.client,
-            number: pair.number,
-            bytes: Bytes::of(bytes),
-        },
-        awaited: Awaited::Storing {
-            primary: pair.node,
-            client: pair.client,
-            number: pair.number,
-        },
-    }
 }
 
 /// Puts a duty before others.

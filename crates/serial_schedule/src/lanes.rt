@@ -1,10 +1,14 @@
 //! The lanes of a run, each a client with a session of its own.
 
-ghost use Rattle.std.specs.Prelude.{◌≡◌, ◌-◌, ◌<◌, ◌≤◌, length, slice_set, IfOk, IfSome};
+ghost use Rattle.std.specs.Prelude.{◌≡◌, ◌-◌, ◌<◌, ◌≤◌, [], length, map, replicate, slice_set, IfOk, IfSome};
 ghost use Rattle.client_session.specs.Sessions.{after_draw, pair_at};
+ghost use Rattle.command_frame.specs.Items.{IsItem};
+ghost use Rattle.log_base.specs.ClusterShape.{Shape};
 ghost use Rattle.serial_schedule.specs.Lanes.{fresh_lanes, lane_at};
+ghost use Rattle.schedule_model.specs.Scheduling.{records_after};
 
 use client_session::{Pair, Session};
+use command_frame::Item;
 use log_base::{Client, Memory, NodeId};
 use std::alloc::Global;
 
@@ -41,4 +45,23 @@ pub fn last_pair(lanes: &Vec<Session>, lane: u8) -> Option<Pair>
         ≡ pair_at (lane_at lanes.now.items lane).client (lane_at lanes.now.items lane).run ((lane_at lanes.now.items lane).draws - 1) pair.node.0) }
 {
     lanes[usize::from(lane)].last()
+}
+
+/// Keeps the record of an append as its lane's last.
+pub fn keep_record<'a>(records: &mut Vec<&'a [u8]>, item: &'a Item)
+    requires all { length records.old.items ≡ 64 }
+    requires item { (config : Shape) × IsItem config item.now }
+    ensures { map (λ r. r.now) records.new.items ≡ records_after item.now (map (λ r. r.now) records.old.items) }
+{
+    if let Item::Append { lane, bytes, .. } = item {
+        records[usize::from(*lane)] = bytes.get();
+    }
+}
+
+/// No lane has a record.
+pub fn no_records<'a>(alloc: Global) -> Result<Vec<&'a [u8]>, Memory>
+    ensures { IfOk result (λ records. map (λ r. r.now) records.items ≡ replicate 64 []) }
+{
+    let none: &'a [u8] = &[];
+    Ok(vec![in alloc; none; usize::from(LANES)]?)
 }

@@ -2,12 +2,13 @@
 
 ghost use Rattle.std.specs.Prelude.{◌≡◌, IfOk, Ok};
 ghost use Rattle.message_frame.specs.Spelling.{IsMessage, message_spelling};
-ghost use Rattle.serial_schedule.specs.Scheduling.{Waiting};
+ghost use Rattle.schedule_model.specs.Scheduling.{Waiting, delivered};
 
-use history_frame::Sent;
+use history_frame::{Input, Sent};
 use log_base::{Memory, NodeId};
 use message_frame::{Message, decode};
 use record_frame::Refusal;
+use schedule_model::Turn;
 use std::alloc::Global;
 use std::marker::Model;
 
@@ -22,8 +23,8 @@ pub struct Letter {
 
 impl Model for Letter {
     ghost use Rattle.message_frame.specs.Reading.{message_of};
-    ghost use Rattle.serial_schedule.specs.Keeping.{AreRead, message_in};
-    ghost use Rattle.serial_schedule.specs.Scheduling.{Waiting as Waits};
+    ghost use Rattle.serial_schedule.specs.Letters.{AreRead, message_in};
+    ghost use Rattle.schedule_model.specs.Scheduling.{Waiting as Waits};
 
     ghost Value = { Waits };
 
@@ -47,26 +48,22 @@ impl Letter {
         }
     }
 
-    pub fn place(&self) -> u32
-        ensures { result ≡ self.now.place }
+    /// The turn of its addressee.
+    pub fn turn(&self, alloc: Global) -> Result<Turn, Memory>
+        ensures { IfOk result (λ turn. turn ≡ delivered self.now) }
     {
-        self.place
-    }
-
-    pub fn index(&self) -> u8
-        ensures { result ≡ self.now.index }
-    {
-        self.index
-    }
-
-    pub fn to(&self) -> NodeId
-        ensures { result ≡ self.now.sent.to }
-    {
-        self.to
+        Ok(Turn {
+            node: self.to,
+            input: Input::Deliver {
+                place: self.place,
+                index: self.index,
+                message: Some(self.message(alloc)?),
+            },
+        })
     }
 
     /// The message, read from the bytes.
-    pub fn message(&self, alloc: Global) -> Result<Message, Memory>
+    fn message(&self, alloc: Global) -> Result<Message, Memory>
         ensures { IfOk result (λ message. message ≡ self.now.sent.message) }
     {
         match decode(alloc, &self.bytes) {

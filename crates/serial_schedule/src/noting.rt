@@ -1,26 +1,29 @@
 //! What follows from what a node did.
 
-ghost use Rattle.std.specs.Prelude.{◌≡◌, ◌+◌, ◌<◌, ◌≤◌, ◌^◌, ◌++◌, [], ◌∷◌, length, map, Some, OnOk, OnErr};
+ghost use Rattle.std.specs.Prelude.{◌≡◌, ◌+◌, ◌<◌, ◌≤◌, ◌^◌, ◌++◌, [], ◌∷◌, length, map, slice_set, Some, IfOk, OnOk, OnErr};
 ghost use Rattle.std.specs.List.{AllByRecursion};
 ghost use Rattle.std.specs.VecDeque.{deque_capacity, deque_len};
 ghost use Rattle.std.specs.Vec.{vec_capacity, vec_len};
 ghost use Rattle.log_base.specs.Shape.{shape};
 ghost use Rattle.history_frame.specs.Spelling.{IsSent};
 ghost use Rattle.event_letters.specs.Letters.{parcel};
-ghost use Rattle.serial_schedule.specs.Keeping.{IsAwaitedOr, IsMade, IsSingle};
-ghost use Rattle.serial_schedule.specs.Noting.{course_or_none, duties_with, replies_with, stream_with};
-ghost use Rattle.serial_schedule.specs.Scheduling.{letters_from};
+ghost use Rattle.item_course.specs.Asking.{IsAwaited};
+ghost use Rattle.schedule_model.specs.Courses.{course_in};
+ghost use Rattle.serial_schedule.specs.Keeping.{IsAwaitedOr, IsMade};
+ghost use Rattle.schedule_model.specs.Streams.{IsSingle, nothing_taken, stream_of};
+ghost use Rattle.schedule_model.specs.Noting.{course_or_none, duties_with, hold_with, replies_with, stream_with};
+ghost use Rattle.schedule_model.specs.Scheduling.{letters_from};
 ghost use Rattle.command_frame.specs.Streams.{unplaced};
-ghost use Rattle.serial_schedule.specs.Streams.{nothing_taken, stream_of};
 ghost use Rattle.subscriber.specs.Following.{after_offer};
 
-use crate::courses::{Course, course_after};
-use crate::duties::{Awaited, Duty};
+use crate::hold::Hold;
 use crate::letters::Letter;
-use command_frame::Reply;
 use history_frame::Sent;
+use item_course::{course_after, held_course};
 use log_base::{Config, List, Memory, Outbox, Position};
 use record_frame::Entry;
+use reply_frame::Reply;
+use schedule_model::{Awaited, Course, Duty};
 use std::alloc::Global;
 use std::collections::VecDeque;
 use std::mem;
@@ -51,23 +54,45 @@ pub fn follow(
     reply: &Reply,
     subscriber: &mut Subscriber,
     duties: &mut VecDeque<Duty>,
+    hold: &mut Hold,
     replies: &mut Vec<Reply>,
 ) -> Result<(), Memory>
     requires awaited { IsAwaitedOr (shape config.now) awaited.now }
     requires single { IsSingle reply.now }
-    ensures stream { OnOk result (subscriber.new ≡ stream_with (course_or_none (shape config.now) awaited.now reply.now) subscriber.old) }
-    ensures duties { OnOk result (duties.new.items ≡ duties_with (course_or_none (shape config.now) awaited.now reply.now) duties.old.items) }
+    ensures stream { OnOk result (subscriber.new ≡ stream_with (course_or_none (shape config.now) hold.old awaited.now reply.now) subscriber.old) }
+    ensures duties { OnOk result (duties.new.items ≡ duties_with (course_or_none (shape config.now) hold.old awaited.now reply.now) duties.old.items) }
     ensures replies { OnOk result (map unplaced replies.new.items
-        ≡ replies_with (course_or_none (shape config.now) awaited.now reply.now) subscriber.old (map unplaced replies.old.items)) }
+        ≡ replies_with (course_or_none (shape config.now) hold.old awaited.now reply.now) subscriber.old (map unplaced replies.old.items)) }
+    ensures hold { OnOk result (hold.new ≡ hold_with (course_or_none (shape config.now) hold.old awaited.now reply.now) (length replies.old.items) hold.old) }
     ensures same_stream { OnErr result (subscriber.new ≡ subscriber.old) }
     ensures same_duties { OnErr result (duties.new.items ≡ duties.old.items) }
     ensures same_replies { OnErr result (replies.new.items ≡ replies.old.items) }
+    ensures same_hold { OnErr result (hold.new ≡ hold.old) }
 {
     let Some(awaited) = awaited else {
         return Ok(());
     };
-    let course = course_after(alloc, config, awaited, reply)?;
-    go_on(alloc, course, subscriber, duties, replies)
+    let course = course_in(alloc, config, hold, awaited, reply)?;
+    go_on(alloc, course, subscriber, duties, hold, replies)
+}
+
+/// What an answer means for its item, whether items are held or not.
+fn course_in(
+    alloc: Global,
+    config: &Config,
+    hold: &Hold,
+    awaited: &Awaited,
+    reply: &Reply,
+) -> Result<Course, Memory>
+    requires awaited { IsAwaited (shape config.now) awaited.now }
+    requires single { IsSingle reply.now }
+    ensures { IfOk result (λ course. course ≡ course_in (shape config.now) hold.now awaited.now reply.now) }
+{
+    if hold.is_held() {
+        held_course(alloc, config, awaited, reply)
+    } else {
+        course_after(alloc, config, awaited, reply)
+    }
 }
 
 /// The item is done, or goes on.
@@ -76,15 +101,18 @@ pub fn go_on(
     course: Course,
     subscriber: &mut Subscriber,
     duties: &mut VecDeque<Duty>,
+    hold: &mut Hold,
     replies: &mut Vec<Reply>,
 ) -> Result<(), Memory>
     requires made { IsMade course }
     ensures stream { OnOk result (subscriber.new ≡ stream_with (Some course) subscriber.old) }
     ensures duties { OnOk result (duties.new.items ≡ duties_with (Some course) duties.old.items) }
     ensures replies { OnOk result (map unplaced replies.new.items ≡ replies_with (Some course) subscriber.old (map unplaced replies.old.items)) }
+    ensures hold { OnOk result (hold.new ≡ hold_with (Some course) (length replies.old.items) hold.old) }
     ensures same_stream { OnErr result (subscriber.new ≡ subscriber.old) }
     ensures same_duties { OnErr result (duties.new.items ≡ duties.old.items) }
     ensures same_replies { OnErr result (replies.new.items ≡ replies.old.items) }
+    ensures same_hold { OnErr result (hold.new ≡ hold.old) }
 {
     match course {
         Course::Replies(reply) => {
@@ -115,6 +143,34 @@ pub fn go_on(
             put_stream(alloc, subscriber, last, replies);
             Ok(())
         }
+        Course::Answers {
+            reply,
+            duties: first,
+        } => {
+            replies.reserve(1)?;
+            put_first(first.into_inner(), duties)?;
+            replies.push_reserved(reply);
+            Ok(())
+        }
+        Course::PutsOff { reply, question } => {
+            replies.reserve(1)?;
+            hold.put_off(replies.len(), question)?;
+            replies.push_reserved(reply);
+            Ok(())
+        }
+        Course::Replaces { item, reply } => {
+            replace(replies, item, reply);
+            Ok(())
+        }
+    }
+}
+
+/// A reply takes the place of that of an item, if the item has one.
+fn replace(replies: &mut Vec<Reply>, item: usize, reply: Reply)
+    ensures { replies.new.items ≡ slice_set replies.old.items item reply }
+{
+    if let Some(place) = replies.get_mut(item) {
+        *place = reply;
     }
 }
 

@@ -1,10 +1,10 @@
 //! Passing over what is done.
 
 ghost use Rattle.std.specs.Prelude.{◌≡◌, false};
-ghost use Rattle.serial_schedule.specs.Scheduling.{due, is_done, is_first_done};
+ghost use Rattle.schedule_model.specs.Scheduling.{due, is_done, is_first_done};
 
-use crate::duties::Duty;
 use crate::letters::Letter;
+use schedule_model::Duty;
 use std::collections::VecDeque;
 
 /// Drops the duties at the front that are done.
@@ -27,13 +27,14 @@ fn is_first_done(queue: &VecDeque<Letter>, duties: &VecDeque<Duty>) -> bool
     }
 }
 
-/// Whether a duty is done: each node was given its signal, or no letter waits.
+/// Whether a duty is done: each node was given its signal, or no letter waits, or none with its number.
 fn is_done(queue: &VecDeque<Letter>, duty: &Duty) -> bool
     ensures { result ≡ is_done queue.now.items duty.now }
 {
     match duty {
         Duty::Give { count, .. } => *count == 0,
         Duty::DeliverAll => queue.is_empty(),
+        Duty::DeliverOne { letter, .. } => queue.len() <= *letter as usize,
         Duty::MakeCall { .. } => false,
     }
 }

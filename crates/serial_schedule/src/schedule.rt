@@ -1,30 +1,33 @@
 //! The schedule.
 
+mod beginning;
+mod giving;
+
 ghost use Rattle.std.specs.Prelude.{◌≡◌, ◌<◌, ◌≤◌, ◌&&◌, length, map, nat_lt, false, IfOk, OnOk, OnErr};
 ghost use Rattle.std.specs.List.{AllByRecursion};
 ghost use Rattle.log_base.specs.Shape.{shape};
 ghost use Rattle.command_frame.specs.Items.{IsItem};
 ghost use Rattle.history_frame.specs.Spelling.{IsSent};
 ghost use Rattle.event_letters.specs.Letters.{parcel};
-ghost use Rattle.serial_schedule.specs.Scheduling.{at_first, begun_next, delivery, first_step, given, is_first_done, is_idle, next_turn, noted, passed, ready, rest_in, turn_in};
-ghost use Rattle.serial_schedule.specs.Keeping.{IsGiven, IsSingle};
+ghost use Rattle.schedule_model.specs.Scheduling.{at_first, given, handed, is_first_done, is_idle, next_plans, next_turn, noted, passed, ready};
+ghost use Rattle.schedule_model.specs.Streams.{IsSingle};
 ghost use Rattle.command_frame.specs.Streams.{unplaced};
 
-use crate::beginnings::{begin_item, follow_from};
-use crate::duties::{Awaited, Duty};
-use crate::lanes::fresh_lanes;
+use crate::hold::Hold;
+use crate::lanes::{fresh_lanes, no_records};
 use crate::letters::Letter;
 use crate::noting::{follow, post};
 use crate::passing::pass_over;
-use crate::rounds::{opening, signal_input};
-use crate::turns::Turn;
 use client_session::Session;
 use command_frame::{Item, Reply};
-use history_frame::{Happened, Input};
-use log_base::{Config, Memory, NodeId, Outbox, Position};
+use history_frame::Happened;
+use item_course::opening;
+use log_base::{Config, List, Memory, Outbox, Position};
+use schedule_model::{Awaited, Duty, NextTurn, Planned};
 use std::alloc::Global;
 use std::collections::VecDeque;
 use std::marker::Model;
+use std::mem;
 use subscriber::Subscriber;
 
 /// The schedule of a run over borrowed items.
@@ -38,7 +41,10 @@ pub struct Schedule<'a> {
     awaited: Option<Awaited>,
     place: u32,
     lanes: Vec<Session>,
+    records: Vec<&'a [u8]>,
     subscriber: Subscriber,
+    hold: Hold,
+    plans: Vec<Planned>,
     replies: Vec<Reply>,
 }
 
@@ -48,7 +54,7 @@ impl<'a> Model for Schedule<'a> {
     ghost use Rattle.reply_frame.specs.contracts.replies.Reply as reply;
     ghost use Rattle.serial_schedule.specs.Keeping.{IsKeptWith};
     ghost use Rattle.serial_schedule.specs.Lanes.{draws_of, primaries_of, run_of};
-    ghost use Rattle.serial_schedule.specs.Scheduling.{Scheduled};
+    ghost use Rattle.schedule_model.specs.Scheduling.{Scheduled};
     ghost use Rattle.command_frame.specs.Streams.{unplaced};
     ghost use Rattle.std.specs.Prelude.{map};
 
@@ -66,11 +72,14 @@ impl<'a> Model for Schedule<'a> {
       place = s.place;
       draws = draws_of s.lanes.items;
       primaries = primaries_of s.lanes.items;
+      records = map (λ r. r.now) s.records.items;
       stream = s.subscriber;
+      hold = s.hold;
+      plans = s.plans.items;
       replies = map unplaced s.replies.items;
     } };
 
-    ghost invariant = { λ s. IsKeptWith (shape s.config) s.lanes.items s.items.now s.duties.items s.awaited };
+    ghost invariant = { λ s. IsKeptWith (shape s.config) s.lanes.items (map (λ r. r.now) s.records.items) s.items.now s.duties.items s.awaited s.hold };
 }
 
 impl<'a> Schedule<'a> {
@@ -88,6 +97,7 @@ impl<'a> Schedule<'a> {
     {
         let duties = VecDeque::from_vec(opening(alloc, &config)?);
         let lanes = fresh_lanes(alloc, run)?;
+        let records = no_records(alloc)?;
         Ok(Schedule {
             alloc,
             config,
@@ -97,20 +107,28 @@ impl<'a> Schedule<'a> {
             awaited: None,
             place: 0,
             lanes,
+            records,
             subscriber: Subscriber::new(alloc, Position(0)),
+            hold: Hold::none(alloc),
+            plans: Vec::new(alloc),
             replies: Vec::new(alloc),
         })
     }
 
-    /// The turn that comes next, or none where the run is over.
-    pub fn next(&mut self) -> Result<Option<Turn>, Memory>
-        ensures turn { IfOk result (λ turn. turn ≡ next_turn self.old) }
+    /// The turn that comes next, or none where the run is over, and what disks are told before it.
+    pub fn next(&mut self) -> Result<NextTurn, Memory>
+        ensures turn { IfOk result (λ next. next.turn ≡ next_turn self.old) }
+        ensures plans { IfOk result (λ next. next.plans ≡ next_plans self.old) }
         ensures after { OnOk result (self.new ≡ given self.old) }
         // After `Memory` the same turn comes next.
         ensures err { OnErr result (ready self.new ≡ ready self.old) }
     {
         self.make_ready()?;
-        self.take_turn()
+        let turn = self.take_turn()?;
+        Ok(NextTurn {
+            plans: self.hand_over(),
+            turn,
+        })
     }
 
     /// Notes what the node did that was given its turn: its letters are taken out of the outbox and join the
@@ -133,6 +151,7 @@ impl<'a> Schedule<'a> {
             &happened.reply,
             &mut self.subscriber,
             &mut self.duties,
+            &mut self.hold,
             &mut self.replies,
         )?;
         self.awaited = None;
@@ -192,100 +211,11 @@ impl<'a> Schedule<'a> {
         self.duties.is_empty() && !self.items.is_empty()
     }
 
-    /// Begins the next item.
-    fn begin(&mut self) -> Result<(), Memory>
-        ensures ok { OnOk result (self.new ≡ begun_next self.old self.old.items) }
-        ensures err { OnErr result (self.new ≡ self.old) }
+    /// Hands over what disks are told.
+    fn hand_over(&mut self) -> List<Planned>
+        ensures plans { result ≡ self.old.plans }
+        ensures handed { self.new ≡ handed self.old }
     {
-        if let Some((item, items)) = self.items.split_first() {
-            begin_item(
-                self.alloc,
-                &self.config,
-                item,
-                &mut self.lanes,
-                &mut self.duties,
-                &mut self.replies,
-            )?;
-            follow_from(self.alloc, &mut self.subscriber, item);
-            self.items = items;
-        }
-        Ok(())
-    }
-
-    /// Takes out the turn that the first duty calls for.
-    fn take_turn(&mut self) -> Result<Option<Turn>, Memory>
-        requires { is_first_done self.old.queue self.old.duties ≡ false }
-        ensures turn { IfOk result (λ turn. turn ≡ turn_in (first_step self.old self.old.duties)) }
-        ensures after { OnOk result (self.new ≡ rest_in self.old (first_step self.old self.old.duties)) }
-        ensures err { OnErr result (self.new ≡ self.old) }
-    {
-        match self.duties.front() {
-            None => Ok(None),
-            Some(Duty::DeliverAll) => self.deliver(),
-            Some(_) => Ok(self.give()),
-        }
-    }
-
-    /// Gives a signal, or makes a call.
-    fn give(&mut self) -> Option<Turn>
-        requires undone { is_first_done self.old.queue self.old.duties ≡ false }
-        requires given { IsGiven self.old.duties }
-        ensures turn { result ≡ turn_in (first_step self.old self.old.duties) }
-        ensures after { self.new ≡ rest_in self.old (first_step self.old self.old.duties) }
-    {
-        match self.duties.pop_front() {
-            Some(
-                Duty::Give {
-                    signal,
-                    first,
-                    count,
-                },
-            ) => {
-                self.duties.push_front_reserved(Duty::Give {
-                    signal,
-                    first: NodeId(first.0 + 1),
-                    count: count - 1,
-                });
-                Some(Turn {
-                    node: first,
-                    input: signal_input(signal),
-                })
-            }
-            Some(
-                Duty::MakeCall {
-                    node,
-                    call,
-                    awaited,
-                },
-            ) => {
-                self.awaited = Some(awaited);
-                Some(Turn {
-                    node,
-                    input: Input::Call(call),
-                })
-            }
-            Some(Duty::DeliverAll) | None => unreachable!(),
-        }
-    }
-
-    /// Delivers the first letter.
-    fn deliver(&mut self) -> Result<Option<Turn>, Memory>
-        ensures turn { IfOk result (λ turn. turn ≡ turn_in (delivery self.old self.old.queue)) }
-        ensures after { OnOk result (self.new ≡ rest_in self.old (delivery self.old self.old.queue)) }
-        ensures err { OnErr result (self.new ≡ self.old) }
-    {
-        let Some(letter) = self.queue.front() else {
-            return Ok(None);
-        };
-        let turn = Turn {
-            node: letter.to(),
-            input: Input::Deliver {
-                place: letter.place(),
-                index: letter.index(),
-                message: Some(letter.message(self.alloc)?),
-            },
-        };
-        let _ = self.queue.pop_front();
-        Ok(Some(turn))
+        List::of(mem::replace(&mut self.plans, Vec::new(self.alloc)))
     }
 }

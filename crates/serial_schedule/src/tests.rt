@@ -3,8 +3,10 @@
 
 ghost use Rattle.std.specs.Prelude.{◌≡◌, ◌≤◌, IfOk};
 ghost use Rattle.command_frame.specs.Items.{IsItem};
-ghost use Rattle.serial_schedule.specs.Keeping.{IsSingle};
-ghost use Rattle.serial_schedule.specs.Worked.{two_by_two};
+ghost use Rattle.schedule_model.specs.Streams.{IsSingle};
+ghost use Rattle.schedule_model.specs.Worked.{two_by_two};
+
+mod lines;
 
 use crate::*;
 use command_frame::{Item, Reply};
@@ -16,6 +18,7 @@ use log_base::{
 };
 use message_frame::Message;
 use record_frame::{Entry, Value};
+use schedule_model::{NextTurn, Turn};
 use std::alloc::Global;
 use std::test::Fail;
 
@@ -32,6 +35,7 @@ enum Says {
     NotAdded,
     Stored,
     Missing,
+    NotCovered,
     NoSuchShard,
     Found,
     AtTheEnd,
@@ -52,6 +56,7 @@ impl Says {
             Says::NotAdded => Reply::NotAdded,
             Says::Stored => Reply::Stored { offset: 0 },
             Says::Missing => Reply::Missing,
+            Says::NotCovered => Reply::PendingAsk { covered: 0 },
             Says::NoSuchShard => Reply::NoSuchShard,
             Says::Found => found(alloc),
             Says::AtTheEnd => Reply::PendingRead { end: Position(7) },
@@ -182,9 +187,15 @@ fn take(
     Ok(true)
 }
 
+/// The turn that comes next, whatever disks are told before it.
+fn next_turn(schedule: &mut Schedule<'_>) -> Result<Option<Turn>, Memory> {
+    let NextTurn { plans: _, turn } = schedule.next()?;
+    Ok(turn)
+}
+
 /// Whether the next turn is that of the row.
 fn is_next(alloc: Global, schedule: &mut Schedule<'_>, row: Row) -> Result<bool, Memory> {
-    match schedule.next()? {
+    match next_turn(schedule)? {
         None => Ok(false),
         Some(turn) => {
             let matches = turn.node.0 == row.0 && kind_of(&turn.input) == row.1;
@@ -208,15 +219,8 @@ fn no_items(rt: HostRuntime) -> Result<(), Fail> {
     let config = Config::new(2, 2, 3, 1)?;
     let mut schedule = Schedule::new(rt.alloc(), config, 1, &[])?;
     assert!(rt; are_next(rt.alloc(), &mut schedule, &OPENING)?);
-    assert!(rt; schedule.next()?.is_none());
+    assert!(rt; next_turn(&mut schedule)?.is_none());
     assert_eq!(rt; schedule.place(), 9);
-    worked_runs();
-    one_event_more();
-    letters_were_sent();
-    inputs_are_allowed();
-    submissions_agree();
-    each_item_is_answered();
-    answers_are_single();
     Ok(())
 }
 
@@ -244,7 +248,7 @@ fn runs_in_order(alloc: Global, schedule: &mut Schedule<'_>) -> Result<bool, Mem
     let known = trimmed && are_next(alloc, schedule, &SETTLING)?;
     let finalised = known && are_next(alloc, schedule, &FINALISED)?;
     let asked = finalised && are_next(alloc, schedule, &ASKED_AGAIN)?;
-    Ok(asked && schedule.next()?.is_none())
+    Ok(asked && next_turn(schedule)?.is_none())
 }
 
 /// The replies to the items.
@@ -310,7 +314,7 @@ fn put_out(alloc: Global, schedule: &mut Schedule<'_>, input: Input) -> Result<b
 
 /// Whether the next turn delivers that letter, of the event at place 3, to node 0.
 fn is_delivered(alloc: Global, schedule: &mut Schedule<'_>) -> Result<bool, Fail> {
-    let Some(turn) = schedule.next()? else {
+    let Some(turn) = next_turn(schedule)? else {
         return Ok(false);
     };
     let input = format!(in alloc; "{:?}", turn.input)?;
@@ -327,11 +331,11 @@ fn a_letter_is_delivered(rt: HostRuntime) -> Result<(), Fail> {
     let config = Config::new(1, 1, 1, 1)?;
     let mut schedule = Schedule::new(alloc, config, 1, &[])?;
     assert!(rt; are_next(alloc, &mut schedule, &OPENING[..3])?);
-    let lead = schedule.next()?.ok_or("no turn")?;
+    let lead = next_turn(&mut schedule)?.ok_or("no turn")?;
     assert!(rt; put_out(alloc, &mut schedule, lead.input)?);
     assert_eq!(rt; schedule.waiting(), 1);
     assert!(rt; is_delivered(alloc, &mut schedule)?);
-    assert!(rt; schedule.next()?.is_none());
+    assert!(rt; next_turn(&mut schedule)?.is_none());
     Ok(())
 }
 
@@ -376,7 +380,7 @@ fn subscriptions_go_on(rt: HostRuntime) -> Result<(), Fail> {
     let mut schedule = Schedule::new(alloc, config, 1, &items)?;
     assert!(rt; are_next(alloc, &mut schedule, &OPENING)?);
     assert!(rt; are_next(alloc, &mut schedule, &FOLLOWED)?);
-    assert!(rt; schedule.next()?.is_none());
+    assert!(rt; next_turn(&mut schedule)?.is_none());
     let replies = format!(in alloc; "{:?}", schedule.into_replies())?;
     assert_eq!(rt; replies.as_str(), STREAMS);
     Ok(())

@@ -20,9 +20,9 @@ use Rattle.node_model.specs.StorageRow.{read_reply}
 use Rattle.sequence_law.proofs.Answering.{IsSaid, called}
 use Rattle.sequence_law.proofs.Moments.{legal_push}
 use Rattle.sequence_law.proofs.Replies.{read_answer}
-use Rattle.serial_schedule.specs.Driven.{IsFollowed, replies_of}
-use Rattle.serial_schedule.specs.Keeping.{IsSingle}
-use Rattle.serial_schedule.proofs.Singles.{row_reply}
+use Rattle.schedule_model.specs.Driven.{IsFollowed, replies_of}
+use Rattle.schedule_model.specs.Streams.{IsSingle}
+use Rattle.schedule_model.proofs.Singles.{row_reply}
 use Rattle.stream_law.specs.Streams.{EachInStream, WasFound}
 use Rattle.stream_law.proofs.Streaming.{AreAnswers, streams-good}
 

@@ -12,7 +12,7 @@ use Rattle.node_model.specs.Legal.{IsLegal}
 use Rattle.node_model.specs.NodeState.{KeptLists}
 use Rattle.node_model.specs.Sequence.{caller, sequence}
 use Rattle.sequence_law.proofs.Reading.{reads_agree}
-use Rattle.serial_schedule.specs.Driven.{IsFollowed, replies_of}
+use Rattle.schedule_model.specs.Driven.{IsFollowed, replies_of}
 use Rattle.stream_law.specs.Streams.{EachInStream, IsOfSequence, IsPiece, StreamsAgree, WasFound}
 use Rattle.stream_law.proofs.Finding.{streams_found}
 

@@ -4,7 +4,7 @@ use Rattle.log_base.specs.declared.numbers.Position.{Position}
 use Rattle.command_frame.specs.declared.items.Item.{Item}
 use Rattle.command_frame.specs.declared.items.Item.TheVariants.{Subscribe}
 use Rattle.reply_frame.specs.declared.replies.Reply.{Reply, Stream'}
-use Rattle.serial_schedule.specs.Keeping.{IsSingle}
+use Rattle.schedule_model.specs.Streams.{IsSingle}
 
 -- a stream from this position on, of so many entries at most
 abbrev pub IsStreamOf : Position → ℕ → Reply → Type 0

@@ -10,7 +10,7 @@ ghost use Rattle.log_base.specs.ClusterShape.{Shape};
 ghost use Rattle.node_model.specs.Durable.{IsFounded};
 ghost use Rattle.node_model.specs.Legal.{IsLegal};
 ghost use Rattle.node_model.specs.NodeState.{KeptLists};
-ghost use Rattle.serial_schedule.specs.Driven.{IsFollowed, replies_of};
+ghost use Rattle.schedule_model.specs.Driven.{IsFollowed, replies_of};
 ghost use Rattle.stream_law.specs.Replies.{IsReplyTo};
 ghost use Rattle.stream_law.specs.Streams.{EachInStream, StreamsAgree, WasFound};
 

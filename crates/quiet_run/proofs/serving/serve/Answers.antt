@@ -12,9 +12,9 @@ use Rattle.log_base.specs.declared.cluster_shape.Config.{Config}
 use Rattle.log_base.specs.Shape.{shape}
 use Rattle.node_model.specs.Legal.{IsLegal}
 use Rattle.node_model.specs.Sound.{payloads_on}
-use Rattle.serial_schedule.specs.Driven.{IsDriven, replies_of}
-use Rattle.serial_schedule.proofs.RunLaws.{replies_all}
-use Rattle.serial_schedule.proofs.Starting.{all_started}
+use Rattle.schedule_model.specs.Driven.{IsDriven, replies_of}
+use Rattle.schedule_model.proofs.RunLaws.{replies_all}
+use Rattle.schedule_model.proofs.Starting.{all_started}
 use Rattle.quiet_run.specs.declared.outcomes.DriveStop.{DriveStop}
 use Rattle.quiet_run.specs.declared.outcomes.DriveStop.TheVariants.{Memory}
 use Rattle.quiet_run.specs.Causes.{BeginWithStarts, HaveCauses, StartsAreClean, node_media}

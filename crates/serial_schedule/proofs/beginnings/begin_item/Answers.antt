@@ -5,7 +5,7 @@ use Rattle.log_base.specs.declared.numbers.NodeId.{NodeId}
 use Rattle.log_base.specs.Shape.{shape}
 use Rattle.command_frame.specs.declared.items.Item.{Item}
 use Rattle.serial_schedule.specs.Lanes.{draws_of, primaries_of}
-use Rattle.serial_schedule.specs.Scheduling.{drawn, primaries_after}
+use Rattle.schedule_model.specs.Scheduling.{drawn, primaries_after}
 use Rattle.serial_schedule.proofs.Drawing.{draws_drawn, primaries_drawn}
 use Rattle.serial_schedule.proofs.beginnings.begin_item.Goals as goal
 

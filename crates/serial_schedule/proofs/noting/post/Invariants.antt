@@ -2,7 +2,7 @@ use Rattle.std.proofs.Common.{◌≡◌, ℕ, ◌+◌, ◌-◌, ◌≤◌, ◌++
 use Rattle.std.specs.VecDeque.{deque_capacity, deque_len}
 use Rattle.log_base.specs.Outgoing.{letter_at}
 use Rattle.event_letters.specs.Letters.{parcel}
-use Rattle.serial_schedule.specs.Scheduling.{letters_from}
+use Rattle.schedule_model.specs.Scheduling.{letters_from}
 use Rattle.serial_schedule.proofs.noting.post.Given as goal
 
 abbrev pub invariant-loop-index : goal.invariant-loop-index

@@ -1,6 +1,6 @@
 use Rattle.std.proofs.Common.{◌≡◌}
 use Rattle.std.specs.VecDeque.{deque_len}
-use Rattle.serial_schedule.specs.Scheduling.{due}
+use Rattle.schedule_model.specs.Scheduling.{due}
 use Rattle.serial_schedule.proofs.passing.pass_over.Given as goal
 
 abbrev pub invariant-duties : goal.invariant-duties

@@ -2,8 +2,8 @@ use Rattle.std.proofs.Common.{◌≡◌, ◌∙◌, ap, sym, subst, Ok}
 use Rattle.message_frame.specs.declared.messages.Message.{Message}
 use Rattle.message_frame.specs.Reading.{message_of}
 use Rattle.message_frame.proofs.MessageLaws.{all_again}
-use Rattle.serial_schedule.specs.Keeping.{AreRead, message_read}
-use Rattle.serial_schedule.specs.Scheduling.{Waiting}
+use Rattle.serial_schedule.specs.Letters.{AreRead, message_read}
+use Rattle.schedule_model.specs.Scheduling.{Waiting}
 use Rattle.serial_schedule.proofs.letters.Letter.of.Goals as goal
 
 pub invariant_of-result : goal.invariant_of-result

@@ -1,5 +1,5 @@
 use Rattle.std.proofs.Common.{◌≡◌, false, length}
-use Rattle.serial_schedule.specs.Scheduling.{is_first_done, ready}
+use Rattle.schedule_model.specs.Scheduling.{is_first_done, ready}
 use Rattle.serial_schedule.proofs.schedule.Schedule.make_ready.Given as goal
 
 abbrev pub invariant-items : goal.invariant-items

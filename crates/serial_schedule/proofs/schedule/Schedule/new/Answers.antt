@@ -1,12 +1,13 @@
-use Rattle.std.proofs.Common.{◌≡◌, ◌+◌, ◌≤◌, List, get_or, length, subst, sym, ap, ◌∙◌, arith}
+use Rattle.std.proofs.Common.{◌≡◌, ◌+◌, ◌≤◌, ℕ, List, get_or, length, subst, sym, ap, ◌∙◌, arith}
 use Rattle.std.specs.List.{AllByRecursion}
 use Rattle.log_base.specs.Shape.{shape}
 use Rattle.client_session.specs.Sessions.{Drawing}
-use Rattle.serial_schedule.specs.Duties.{opening}
-use Rattle.serial_schedule.specs.Keeping.{IsDuty}
+use Rattle.schedule_model.specs.Duties.{opening}
+use Rattle.serial_schedule.specs.Keeping.{IsDuty, IsHold}
 use Rattle.serial_schedule.specs.Lanes.{AreLanes, draws_of, fresh_lanes, run_of}
 use Rattle.serial_schedule.proofs.Drawing.{fresh-are}
-use Rattle.serial_schedule.proofs.Kept.{none-drawn, opening-kept}
+use Rattle.schedule_model.proofs.Kept.{none-drawn}
+use Rattle.serial_schedule.proofs.Followed.{opening-kept}
 use Rattle.serial_schedule.proofs.schedule.Schedule.new.Goals as goal
 
 pub invariant_of-result : goal.invariant_of-result
@@ -19,9 +20,11 @@ invariant_of-result c =
         each_item = c.requires.items;
         each_duty = subst (AllByRecursion (IsDuty (shape c.args.config))) (sym opens) (opening-kept (shape c.args.config) c.args.config.in_range);
         answer = tt;
+        questions = subst (IsHold (shape c.args.config)) (sym c.none.ensures) tt;
         lanes = ap (λ (lanes : List Drawing). length (draws_of lanes)) begin;
         room = λ lane. subst (λ (lanes : List Drawing). get_or (draws_of lanes) lane 0 + length c.args.items.now ≤ 65536) (sym begin)
             (let none : get_or (draws_of (fresh_lanes c.args.run 64)) lane 0 ≡ 0 = none-drawn 64 lane in omega (arith, none, c.requires.few));
       };
       lanes_are = subst AreLanes (sym begin) (fresh-are c.args.run);
+      records_are = ap (λ (records : List (List ℕ)). length records) c.in_ok-records.ensures;
     }

@@ -1,8 +1,15 @@
-use Rattle.std.proofs.Common.{ap, ◌∙◌}
-use Rattle.std.proofs.lemmas.Result.{on_err_weaker}
-use Rattle.serial_schedule.specs.Scheduling.{ready}
-use Rattle.serial_schedule.proofs.Ready.{ready-ready}
+use Rattle.std.proofs.Common.{Result, Ok, Err, ap, ◌∙◌}
+use Rattle.std.specs.Prelude.{OnErr}
+use Rattle.schedule_model.specs.Scheduling.{ready}
+use Rattle.schedule_model.proofs.Ready.{ready-ready}
 use Rattle.serial_schedule.proofs.schedule.Schedule.next.Goals as goal
 
-pub returns-clause-err : goal.returns-clause-err
-returns-clause-err c = on_err_weaker c.take_turn.result (λ same. ap ready same ∙ ap ready c.in_ok-make_ready.ensures.ok ∙ ready-ready c.args.self.now) c.take_turn.ensures.err
+-- what is so is so of every error
+on_err : {T E P : Type 0} (result : Result T E) → P → OnErr result P
+on_err (Ok value) h = tt
+on_err (Err error) h = h
+
+pub returns-in_err-turn-clause-err : goal.returns-in_err-turn-clause-err
+returns-in_err-turn-clause-err c =
+    on_err c.from_residual-in_err-turn.result
+    (ap ready c.in_err-turn.ensures.err ∙ ap ready c.in_ok-make_ready.ensures.ok ∙ ready-ready c.args.self.now)

@@ -1,0 +1,10 @@
+pub mod Duties
+pub mod Streams
+pub mod Courses
+pub mod Holding
+pub mod Scheduling
+pub mod Noting
+pub mod Driven
+pub mod Calling
+pub mod Worked
+pub mod Starts

@@ -1,5 +1,0 @@
-use Rattle.serial_schedule.proofs.RunLaws.{replies_all, replies_few}
-use Rattle.serial_schedule.proofs.laws.each_item_is_answered.Goals as goal
-
-pub returns : goal.returns
-returns c = record { few = replies_few; all = replies_all }

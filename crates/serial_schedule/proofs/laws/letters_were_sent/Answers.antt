@@ -1,5 +1,0 @@
-use Rattle.serial_schedule.proofs.RunLaws.{letters_sent, turn_delivered}
-use Rattle.serial_schedule.proofs.laws.letters_were_sent.Goals as goal
-
-pub returns : goal.returns
-returns c = record { waiting = letters_sent; delivered = turn_delivered }

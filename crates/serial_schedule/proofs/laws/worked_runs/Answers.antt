@@ -1,5 +1,0 @@
-use Rattle.serial_schedule.proofs.Runs.{addition_driven, addition_replies, opening_followed}
-use Rattle.serial_schedule.proofs.laws.worked_runs.Goals as goal
-
-pub returns : goal.returns
-returns c = record { opening = opening_followed; driven = addition_driven; replies = addition_replies }
