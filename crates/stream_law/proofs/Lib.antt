@@ -1,3 +1,4 @@
+pub mod Takings
 pub mod Streaming
 pub mod Finding
 pub mod Standing

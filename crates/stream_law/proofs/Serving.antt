@@ -1,6 +1,7 @@
 -- Each reply is one to the item in its place.
-use Rattle.std.proofs.Common.{◌≡◌, ◌+◌, ◌-◌, ℕ, true, List, [], ◌∷◌, ◌++◌, length, slice_get, slice_set, Option, Some, None, refl, ap, sym, subst, append_assoc, ◌∙◌, arith}
+use Rattle.std.proofs.Common.{◌≡◌, ◌+◌, ◌-◌, ℕ, zero, suc, true, List, [], ◌∷◌, ◌++◌, length, slice_get, Option, Some, None, refl, sym, subst, append_assoc, ◌∙◌, arith}
 use Rattle.std.specs.List.{AllByRecursion, AllZip}
+use Rattle.std.proofs.lemmas.Option.{none-some, same_Some}
 use Rattle.log_base.specs.ClusterShape.{Shape}
 use Rattle.command_frame.specs.declared.items.Item.{Item}
 use Rattle.command_frame.specs.Items.{IsItem}
@@ -23,7 +24,7 @@ use Rattle.schedule_model.specs.Courses.{course_in}
 use Rattle.schedule_model.specs.Holding.{questions_of}
 use Rattle.schedule_model.specs.Driven.{after_event, after_events, replies_of}
 use Rattle.schedule_model.specs.Streams.{IsSingle, stream_of}
-use Rattle.schedule_model.specs.Scheduling.{Scheduled, Waiting, answered, at_first, begins, begun, delivery, delivery_of, entered, first_step, given, handed, hold_after, is_idle, joined, passed, ready, rest_in, scene_of, taken}
+use Rattle.schedule_model.specs.Scheduling.{Scheduled, Waiting, answered, at_first, begins, begun, delivery, delivery_of, entered, first_step, given, handed, is_idle, joined, passed, ready, rest_in, scene_of, taken}
 use Rattle.schedule_model.proofs.Along.{ready-keeps}
 use Rattle.schedule_model.proofs.Counted.{beginning-count, calls_in, calls_in-append, course_count, course_in-count, due-calls, step_in}
 use Rattle.schedule_model.proofs.Kept.{each-append, each-due}
@@ -56,11 +57,14 @@ module _ (all : List Item) where
   IsDue (Some item) stream duties = AllByRecursion (IsDutyFor all item stream) duties × (calls_in duties ≡ 1)
 
   -- or its answer is awaited
+  abbrev IsItemDue : Option Item → Following → Awaited → List Duty → Type 0
+  IsItemDue None stream awaited duties = ⊥
+  IsItemDue (Some item) stream awaited duties = IsCallFor all item stream awaited × (calls_in duties ≡ 0) × AllByRecursion (IsLateDuty all) duties
+
   abbrev IsAwaitedDue : Option Item → Following → Option Awaited → List Duty → Type 0
   IsAwaitedDue under stream None duties = IsDue under stream duties
   IsAwaitedDue under stream (Some (Again place)) duties = IsPlainAt all place × IsDue under stream duties
-  IsAwaitedDue None stream (Some awaited) duties = ⊥
-  IsAwaitedDue (Some item) stream (Some awaited) duties = IsCallFor all item stream awaited × (calls_in duties ≡ 0)
+  IsAwaitedDue under stream (Some awaited) duties = IsItemDue under stream awaited duties
 
   record IsServing (s : Scheduled) : Type 0 where
     done : List Item
@@ -249,7 +253,7 @@ module _ (all : List Item) where
   called-due None stream duties node call awaited h =
       let none : calls_in (MakeCall node call awaited ∷ duties) ≡ 0 = h.1 in absurd (omega arith)
   called-due (Some item) stream duties node call awaited h =
-      let one : calls_in (MakeCall node call awaited ∷ duties) ≡ 1 = h.1 in (h.0.0, omega arith)
+      let one : calls_in (MakeCall node call awaited ∷ duties) ≡ 1 = h.1 in (h.0.0, omega arith, duties-late all item stream duties h.0.1)
 
   -- what is due between events
   due-now : (s : Scheduled) (duties : List Duty) (h : IsServed s) → s.duties ≡ duties → IsDue h.serving.under s.stream duties
@@ -273,22 +277,73 @@ module _ (all : List Item) where
   -- ---- an event
 
   -- an answer to the item under way
-  item-served : (s : Scheduled) (awaited : Awaited) (reply : Reply) (item : Item) (h : IsServing s) → IsSingle reply → step_in awaited ≡ 1
-      → h.done ++ item ∷ s.items ≡ all → IsCallFor all item s.stream awaited → calls_in s.duties ≡ 0 → AllByRecursion (IsLateDuty all) s.duties
+  answered-with : (s : Scheduled) (awaited : Awaited) (reply : Reply) (under : Option Item) (done : List Item) → IsSingle reply → step_in awaited ≡ 1
+      → done ++ to_serve under s.items ≡ all → AllByRecursion (IsItem s.config) s.items → AllZip IsReplyTo done s.replies
+      → AllByRecursion (IsLateQuestion all) (questions_of s.hold) → IsItemDue under s.stream awaited s.duties
       → IsServed (taken (record s { awaited = None }) (course_in s.config s.hold awaited reply))
-  item-served s awaited reply item h single step parts call idle late =
+  answered-with s awaited reply None done single step parts items served held due = absurd due
+  answered-with s awaited reply (Some item) done single step parts items served held due =
       taken-served (record s { awaited = None }) item (course_in s.config s.hold awaited reply)
-      (record { done = h.done; parts = parts; items = h.items; served = h.served; held = h.held; late = late; idle = idle; none = refl })
+      (record { done = done; parts = parts; items = items; served = served; held = held; late = due.2; idle = due.1; none = refl })
       (course_in-count s.config s.hold awaited reply ∙ step)
-      (in-good all s.config s.hold item s.stream awaited reply single call)
+      (in-good all s.config s.hold item s.stream awaited reply single due.0)
+
+  -- an answer to an item that is asked again
+  replaced-served : (s : Scheduled) (place : ℕ) (reply : Reply) (h : IsServing s) → IsSingle reply → IsPlainAt all place → IsDue h.under s.stream s.duties
+      → IsServed (taken (record s { awaited = None }) (Replaces place reply))
+  replaced-served s place reply h single plain due = record {
+    serving = record {
+      done = h.done;
+      under = h.under;
+      parts = h.parts;
+      items = h.items;
+      served = zip-set IsReplyTo h.done s.replies place reply h.served
+          (λ item at. plain-reply item reply
+          (plain item (subst (λ (l : List Item). slice_get l place ≡ Some item) h.parts (before h.done (to_serve h.under s.items) place item at))) single);
+      held = h.held;
+      due = due;
+    };
+    none = refl;
+  }
+
+  again-served : (s : Scheduled) (hold : Option (List PutOff)) (place : ℕ) (reply : Reply) (h : IsServing s) → IsSingle reply → IsPlainAt all place
+      → IsDue h.under s.stream s.duties → IsServed (taken (record s { awaited = None }) (course_in s.config hold (Again place) reply))
+  again-served s None place reply h single plain due = replaced-served s place reply h single plain due
+  again-served s (Some put_off) place reply h single plain due = replaced-served s place reply h single plain due
+
+  due-then : (s : Scheduled) (awaited : Awaited) (h : IsServing s) → s.awaited ≡ Some awaited → IsAwaitedDue h.under s.stream (Some awaited) s.duties
+  due-then s awaited h e = subst (λ (a : Option Awaited). IsAwaitedDue h.under s.stream a s.duties) e h.due
+
+  item-served : (s : Scheduled) (awaited : Awaited) (reply : Reply) (h : IsServing s) → IsSingle reply → step_in awaited ≡ 1
+      → IsItemDue h.under s.stream awaited s.duties → IsServed (taken (record s { awaited = None }) (course_in s.config s.hold awaited reply))
+  item-served s awaited reply h single step due = answered-with s awaited reply h.under h.done single step h.parts h.items h.served h.held due
+
+  answered-served : (s : Scheduled) (awaited : Option Awaited) (reply : Reply) → s.awaited ≡ awaited → IsSingle reply → IsServing s → IsServed (answered s awaited reply)
+  answered-served s None reply e single h = record { serving = h; none = e }
+  answered-served s (Some (Storing primary client number)) reply e single h =
+      item-served s (Storing primary client number) reply h single refl (due-then s (Storing primary client number) h e)
+  answered-served s (Some (Requesting orderer client value)) reply e single h =
+      item-served s (Requesting orderer client value) reply h single refl (due-then s (Requesting orderer client value) h e)
+  answered-served s (Some (Reading replica client position)) reply e single h =
+      item-served s (Reading replica client position) reply h single refl (due-then s (Reading replica client position) h e)
+  answered-served s (Some (Streaming subscription)) reply e single h = item-served s (Streaming subscription) reply h single refl (due-then s (Streaming subscription) h e)
+  answered-served s (Some (StreamingOn subscription)) reply e single h = item-served s (StreamingOn subscription) reply h single refl (due-then s (StreamingOn subscription) h e)
+  answered-served s (Some Last) reply e single h = item-served s Last reply h single refl (due-then s Last h e)
+  answered-served s (Some (Held asked)) reply e single h = item-served s (Held asked) reply h single refl (due-then s (Held asked) h e)
+  answered-served s (Some (Again place)) reply e single h =
+      let due = due-then s (Again place) h e in again-served s s.hold place reply h single due.0 due.1
 
   joined-serving : (s : Scheduled) (outputs : List Sent) → IsServing s → IsServing (joined s outputs)
-  joined-serving s outputs h = record { done = h.done; under = h.under; parts = h.parts; items = h.items; served = h.served; due = h.due }
+  joined-serving s outputs h = record { done = h.done; under = h.under; parts = h.parts; items = h.items; served = h.served; held = h.held; due = h.due }
+
+  handed-serving : (s : Scheduled) → IsServing s → IsServing (handed s)
+  handed-serving s h = record { done = h.done; under = h.under; parts = h.parts; items = h.items; served = h.served; held = h.held; due = h.due }
 
   event-served : (s : Scheduled) (event : Event) → IsSingle event.happened.reply → IsServed s → IsServed (after_event s event)
   event-served s event single h =
       answered-served (joined (given s) event.happened.outputs) (given s).awaited event.happened.reply refl single
-      (joined-serving (given s) event.happened.outputs (first-serving (ready s) (ready s).duties refl (ready-served s h)))
+      (joined-serving (given s) event.happened.outputs
+      (handed-serving (rest_in (ready s) (first_step (ready s) (ready s).duties)) (first-serving (ready s) (ready s).duties refl (ready-served s h))))
 
   events-served : (s : Scheduled) (events : List Event) → AllByRecursion (λ (e : Event). IsSingle e.happened.reply) events → IsServed s → IsServed (after_events s events)
   events-served s [] singles h = h
@@ -300,7 +355,7 @@ pub replies-served : (config : Shape) (run : ℕ) (items : List Item) (events : 
     → slice_get (replies_of config run items events) k ≡ Some reply → IsReplyTo item reply
 replies-served config run items events each singles k item reply there told =
     let first : IsServed items (at_first config run items) =
-    record { serving = record { done = []; under = None; parts = refl; items = each; served = tt; due = refl }; none = refl } in
+    record { serving = record { done = []; under = None; parts = refl; items = each; served = tt; held = tt; due = ((tt, (tt, (tt, tt))), refl) }; none = refl } in
     let s = after_events (at_first config run items) events in
     let last = (ready-served items s (events-served items (at_first config run items) events singles first)).serving in
     zip-at IsReplyTo last.done (to_serve last.under (ready s).items) (ready s).replies last.served k item reply
