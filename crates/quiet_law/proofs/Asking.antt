@@ -15,7 +15,7 @@ use Rattle.plain_log.specs.Log.{LogState, Primary, asked_of, entries_of, primary
 use Rattle.schedule_model.specs.Courses.{asked, beginning, client_of, last_number}
 use Rattle.quiet_model.specs.Moments.{Moment}
 use Rattle.quiet_model.specs.Settled.{IsReplica, ListsOf, list_at}
-use Rattle.quiet_law.specs.Going.{Goes}
+use Rattle.quiet_law.specs.Going.{Goes, no_scene}
 use Rattle.subscriber.specs.Following.{Following}
 use Rattle.quiet_law.specs.Matching.{AreListsOf, IsInOrder, IsOfCluster, Matches, agreed_in, node_of_primary, primaries_in}
 use Rattle.quiet_law.proofs.Answering.{replica_answers}
@@ -66,7 +66,7 @@ module _ (config : Shape) (run : ℕ) (state : LogState) (lane : ℕ) (stream : 
       (subst (Matches config state) (sym goes.3.1) stays, goes.3.0 ∙ told.1)
 
   pub ask_answered : IsInOrder config run state → (calls : ℕ) (before after : Moment) (answer : Reply) → Matches config state before
-      → Goes config stream calls (beginning config run state.draws (primaries_in config state) (Ask lane)) before answer after
+      → Goes config stream calls (beginning config run state.draws (primaries_in config state) no_scene (Ask lane)) before answer after
       → Matches config state after × (answer ≡ reply_to config run state (Ask lane))
   ask_answered is calls before after answer matches goes =
       let named = primary_named config state.primaries lane in

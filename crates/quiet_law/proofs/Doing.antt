@@ -11,10 +11,11 @@ use Rattle.history_frame.specs.declared.inputs.Call.{Call}
 use Rattle.history_frame.specs.declared.inputs.Input.{Input}
 use Rattle.history_frame.specs.declared.inputs.Input.TheVariants.{Deliver, Call as ACall}
 use Rattle.schedule_model.specs.declared.duties.Awaited.{Awaited}
+use Rattle.schedule_model.specs.declared.duties.Awaited.TheVariants.{Held, Again}
 use Rattle.schedule_model.specs.declared.duties.Duty.{Duty}
-use Rattle.schedule_model.specs.declared.duties.Duty.TheVariants.{Give, DeliverAll, MakeCall}
+use Rattle.schedule_model.specs.declared.duties.Duty.TheVariants.{Give, DeliverAll, DeliverOne, MakeCall}
 use Rattle.schedule_model.specs.declared.duties.Signal.{Signal}
-use Rattle.schedule_model.specs.declared.duties.Signal.TheVariants.{Restart, Lead, Tick}
+use Rattle.schedule_model.specs.declared.duties.Signal.TheVariants.{Restart, Lead, Tick, Stop}
 use Rattle.schedule_model.specs.Courses.{course_of}
 use Rattle.schedule_model.specs.Duties.{give, signal_input}
 use Rattle.schedule_model.specs.Scheduling.{Scheduled, Waiting, letters_from, ready, taken}
@@ -23,9 +24,9 @@ use Rattle.quiet_law.specs.Going.{DoneThen}
 use Rattle.quiet_law.specs.Quiet.{quiet_mark}
 use Rattle.quiet_law.proofs.Playing.{Plays, finally, is_ready, letters_in, moment_of, passes, same_end, same_plays, stepped, takes_as}
 
--- a schedule at which no answer is awaited
-abbrev pub spot : Shape → ℕ → List Item → List ℕ → List (Option NodeId) → Following → List Reply → List Duty → List Waiting → ℕ → Scheduled
-spot config run items draws primaries stream replies duties queue place = record {
+-- a schedule at which no answer is awaited, nothing is held, and no failure is planned
+abbrev pub spot : Shape → ℕ → List Item → List ℕ → List (Option NodeId) → List (List ℕ) → Following → List Reply → List Duty → List Waiting → ℕ → Scheduled
+spot config run items draws primaries records stream replies duties queue place = record {
   config = config;
   run = run;
   items = items;
@@ -35,9 +36,18 @@ spot config run items draws primaries stream replies duties queue place = record
   place = place;
   draws = draws;
   primaries = primaries;
+  records = records;
   stream = stream;
+  hold = None;
+  plans = [];
   replies = replies;
 }
+
+-- an answer that is not that of a held item
+abbrev pub IsPlainAnswer : Awaited → Type 0
+IsPlainAnswer (Held asked) = ⊥
+IsPlainAnswer (Again item) = ⊥
+IsPlainAnswer awaited = Unit {0}
 
 -- duties up to a call, which is the last of them, and of which none is a restart
 abbrev pub EndsInCall : List Duty → Type 0
@@ -45,12 +55,14 @@ EndsInCall [] = ⊥
 EndsInCall (Give Tick first count ∷ duties) = EndsInCall duties
 EndsInCall (Give Lead first count ∷ duties) = ⊥
 EndsInCall (Give Restart first count ∷ duties) = ⊥
+EndsInCall (Give Stop first count ∷ duties) = ⊥
 EndsInCall (DeliverAll ∷ duties) = EndsInCall duties
-EndsInCall (MakeCall node call awaited ∷ duties) = duties ≡ []
+EndsInCall (DeliverOne letter afterwards ∷ duties) = ⊥
+EndsInCall (MakeCall node call awaited ∷ duties) = IsPlainAnswer awaited × (duties ≡ [])
 
-module _ (config : Shape) (run : ℕ) (whole : List Event) (items : List Item) (draws : List ℕ) (primaries : List (Option NodeId)) (stream : Following) (replies : List Reply) where
+module _ (config : Shape) (run : ℕ) (whole : List Event) (items : List Item) (draws : List ℕ) (primaries : List (Option NodeId)) (records : List (List ℕ)) (stream : Following) (replies : List Reply) where
   abbrev here : List Duty → List Waiting → ℕ → Scheduled
-  here duties queue place = spot config run items draws primaries stream replies duties queue place
+  here duties queue place = spot config run items draws primaries records stream replies duties queue place
 
   -- what is left once something was reached: the duties that are due, and the events
   pub record Left (duties : List Duty) (Reached : Moment → Type 0) (most : ℕ) (ends : List Reply) : Type 0 where
@@ -188,6 +200,7 @@ module _ (config : Shape) (run : ℕ) (whole : List Event) (items : List Item) (
     pub plays : Plays config run whole before events (taken (here [] queue place) (course_of config awaited reply))
     pub ending : finally (taken (here [] queue place) (course_of config awaited reply)) events ≡ ends
     pub few : suc (length events) ≤ most
+    pub plain : IsPlainAnswer awaited
 
   -- what was done before comes first
   called_then : (duty : Duty) (duties : List Duty) (from to : Moment) (most more : ℕ) (ends : List Reply) → most ≤ more
@@ -204,12 +217,13 @@ module _ (config : Shape) (run : ℕ) (whole : List Event) (items : List Item) (
     plays = h.plays;
     ending = h.ending;
     few = let few = h.few in omega arith;
+    plain = h.plain;
   }
 
-  makes_call : (node : NodeId) (call : Call) (awaited : Awaited) (queue : List Waiting) (place : ℕ) (before events : List Event)
+  makes_call : (node : NodeId) (call : Call) (awaited : Awaited) → IsPlainAnswer awaited → (queue : List Waiting) (place : ℕ) (before events : List Event)
       → Plays config run whole before events (here (MakeCall node call awaited ∷ []) queue place)
       → Called (MakeCall node call awaited ∷ []) (moment_of config before queue) (length events) (finally (here (MakeCall node call awaited ∷ []) queue place) events)
-  makes_call node call awaited queue place before events plays =
+  makes_call node call awaited plain queue place before events plays =
       let s = here (MakeCall node call awaited ∷ []) queue place in
       let rest : Scheduled = record s { duties = []; awaited = Some awaited } in
       let one = stepped config run whole before events s node.0 (ACall call) rest (is_ready (here [] queue place) (MakeCall node call awaited) [] refl) refl plays in
@@ -231,6 +245,7 @@ module _ (config : Shape) (run : ℕ) (whole : List Event) (items : List Item) (
         plays = one.plays;
         ending = one.ends;
         few = omega arith;
+        plain = plain;
       }
 
   pub calls : (duties : List Duty) → EndsInCall duties → (queue : List Waiting) (place : ℕ) (before events : List Event)
@@ -239,6 +254,8 @@ module _ (config : Shape) (run : ℕ) (whole : List Event) (items : List Item) (
   calls [] is queue place before events plays = absurd is
   calls (Give Restart first count ∷ duties) is queue place before events plays = absurd is
   calls (Give Lead first count ∷ duties) is queue place before events plays = absurd is
+  calls (Give Stop first count ∷ duties) is queue place before events plays = absurd is
+  calls (DeliverOne letter afterwards ∷ duties) is queue place before events plays = absurd is
   calls (Give Tick first count ∷ duties) is queue place before events plays =
       let left = gives Tick count first.0 duties queue place before events plays in
       let more = calls duties is left.queue left.place left.before left.events left.plays in
@@ -259,4 +276,4 @@ module _ (config : Shape) (run : ℕ) (whole : List Event) (items : List Item) (
       subst
       (λ (rest : List Duty). Plays config run whole before events (here (MakeCall node call awaited ∷ rest) queue place)
       → Called (MakeCall node call awaited ∷ rest) (moment_of config before queue) (length events) (finally (here (MakeCall node call awaited ∷ rest) queue place) events))
-      (sym is) (makes_call node call awaited queue place before events) plays
+      (sym is.1) (makes_call node call awaited is.0 queue place before events) plays

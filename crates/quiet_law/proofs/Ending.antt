@@ -11,8 +11,8 @@ use Rattle.record_frame.specs.declared.entries.Entry.{Entry}
 use Rattle.record_frame.specs.declared.values.Value.{Value}
 use Rattle.record_frame.specs.declared.values.Value.TheVariants.{Cut, Add as AddValue, Finalise as FinaliseValue, Trim as TrimValue}
 use Rattle.command_frame.specs.declared.items.Item.{Item}
-use Rattle.command_frame.specs.declared.items.Item.TheVariants.{Append, Read, Subscribe, Trim, Add, Finalise, Ask}
-use Rattle.command_frame.specs.Items.{IsItem}
+use Rattle.command_frame.specs.declared.items.Item.TheVariants.{Append, Read, Subscribe, Trim, Add, Finalise, Ask, Fault}
+use Rattle.command_frame.specs.Items.{IsItem, IsNoFault}
 use Rattle.reply_frame.specs.declared.replies.Reply.{Reply}
 use Rattle.history_frame.specs.declared.events.Event.{Event}
 use Rattle.history_frame.specs.declared.events.Sent.{Sent}
@@ -29,7 +29,7 @@ use Rattle.schedule_model.specs.declared.duties.Signal.TheVariants.{Lead, Restar
 use Rattle.schedule_model.specs.Courses.{beginning}
 use Rattle.schedule_model.specs.Driven.{replies_of}
 use Rattle.schedule_model.specs.Duties.{give}
-use Rattle.schedule_model.specs.Scheduling.{Scheduled, Waiting, at_first, drawn, primaries_after, ready, stream_before, taken}
+use Rattle.schedule_model.specs.Scheduling.{Scheduled, Waiting, at_first, drawn, entered, primaries_after, ready, records_after, scene_of, stream_before, taken}
 use Rattle.schedule_model.specs.Streams.{nothing_taken}
 use Rattle.subscriber.specs.Following.{Following}
 use Rattle.schedule_model.proofs.Ready.{ready-begins}
@@ -63,6 +63,15 @@ one_value config run state (Finalise lane shard) =
     cond_both (knows config.replicas state shard.0) (with_value state (FinaliseValue shard)) state (λ (s : LogState). length s.values ≤ length state.values + 1)
     (λ _. omega (arith, length-append state.values (FinaliseValue shard ∷ []))) (λ _. omega arith)
 one_value config run state (Ask lane) = omega arith
+one_value config run state (Fault lane fault) = omega arith
+
+-- an item that is no line of the fault script changes neither the queue, nor a hold, nor what is planned
+entered_at : (config : Shape) (run : ℕ) (item : Item) (items : List Item) (draws : List ℕ) (primaries : List (Option NodeId)) (records : List (List ℕ)) (stream : Following)
+    (replies : List Reply) (queue : List Waiting) (place : ℕ) → IsNoFault item
+    → entered (spot config run (item ∷ items) draws primaries records stream replies [] queue place) item items
+    ≡ spot config run items (drawn item draws) (primaries_after config item primaries) (records_after item records) (stream_before item stream) replies [] queue place
+entered_at config run (Fault lane fault) items draws primaries records stream replies queue place no_fault = absurd no_fault
+entered_at config run item items draws primaries records stream replies queue place no_fault = refl
 
 module _ (config : Shape) (range : InRange config) (run : ℕ) where
   -- orderer 0 knows the values of the log
@@ -108,34 +117,38 @@ module _ (config : Shape) (range : InRange config) (run : ℕ) where
     IsEnded state items replies ends =
         Matches config (state_after config run state items) (moment_after config whole) × (ends ≡ replies ++ replies_from config run state items)
 
-    items_played : (items : List Item) (state : LogState) → IsInOrder config run state → AllByRecursion (IsItem config) items → Fits state items
-        → (stream : Following) (replies : List Reply) (queue : List Waiting) (place : ℕ) (before events : List Event)
-        → Plays config run whole before events (spot config run items state.draws (primaries_in config state) stream replies [] queue place)
+    items_played : (items : List Item) (state : LogState) → IsInOrder config run state → AllByRecursion (IsItem config) items → AllByRecursion IsNoFault items → Fits state items
+        → (records : List (List ℕ)) (stream : Following) (replies : List Reply) (queue : List Waiting) (place : ℕ) (before events : List Event)
+        → Plays config run whole before events (spot config run items state.draws (primaries_in config state) records stream replies [] queue place)
         → Matches config state (moment_of config before queue)
-        → IsEnded state items replies (finally (spot config run items state.draws (primaries_in config state) stream replies [] queue place) events)
-    items_played [] state is all fits stream replies queue place before [] plays matches =
+        → IsEnded state items replies (finally (spot config run items state.draws (primaries_in config state) records stream replies [] queue place) events)
+    items_played [] state is all none fits records stream replies queue place before [] plays matches =
         let none_left : letters_in queue ≡ [] = matches.settled.queue in
         let last : before ≡ whole = sym (append-nil before) ∙ plays.parts in
         let delivered = subst (λ (letters : List Sent). Matches config state (record { nodes = node_after config empty_disks before; queue = letters })) none_left matches in
         (subst (λ (es : List Event). Matches config state (moment_after config es)) last delivered, sym (append-nil replies))
-    items_played [] state is all fits stream replies queue place before (event ∷ events) plays matches =
+    items_played [] state is all none fits records stream replies queue place before (event ∷ events) plays matches =
         absurd (let none = plays.follow.0 in cc)
-    items_played (item ∷ items) state is all fits stream replies queue place before events plays matches =
-        let s = spot config run (item ∷ items) state.draws (primaries_in config state) stream replies [] queue place in
+    items_played (item ∷ items) state is all none fits records stream replies queue place before events plays matches =
+        let s = spot config run (item ∷ items) state.draws (primaries_in config state) records stream replies [] queue place in
         let primaries = primaries_after config item (primaries_in config state) in
-        let begins = taken (spot config run items (drawn item state.draws) primaries (stream_before item stream) replies [] queue place) (beginning config run state.draws (primaries_in config state) item) in
-        let same : ready s ≡ ready begins = sym (ready-begins s (item ∷ items) refl refl refl) in
-        let one = course_played config run whole items (drawn item state.draws) primaries (length events) (stream_before item stream) replies (beginning config run state.draws (primaries_in config state) item)
-        (beginning_calls config run state.draws (primaries_in config state) item) queue place before events (omega arith)
+        let next_records = records_after item records in
+        let course = beginning config run state.draws (primaries_in config state) (scene_of s) item in
+        let begins = taken (spot config run items (drawn item state.draws) primaries next_records (stream_before item stream) replies [] queue place) course in
+        let same : ready s ≡ ready begins =
+        sym (ready-begins s (item ∷ items) refl refl refl)
+        ∙ ap (λ (x : Scheduled). ready (taken x course)) (entered_at config run item items state.draws (primaries_in config state) records stream replies queue place none.0) in
+        let one = course_played config run whole items (drawn item state.draws) primaries next_records (length events) (stream_before item stream) replies course
+        (beginning_calls config run state.draws (primaries_in config state) (scene_of s) item none.0) queue place before events (omega arith)
         (same_plays s begins same config run whole before events plays) in
         let next = after config run state item in
         let few = fits_next state item items queue before events plays.parts matches fits in
-        let told = item_answered config range run state item is all.0 few stream one.calls (moment_of config before queue) (moment_of config one.before one.queue) one.answer matches one.goes in
+        let told = item_answered config range run state item is all.0 none.0 few (scene_of s) stream one.calls (moment_of config before queue) (moment_of config one.before one.queue) one.answer matches one.goes in
         let later = replies ++ one.answer ∷ [] in
-        let spot_with : List ℕ → List (Option NodeId) → Scheduled = λ draws primaries. spot config run items draws primaries one.left later [] one.queue one.place in
+        let spot_with : List ℕ → List (Option NodeId) → Scheduled = λ draws primaries. spot config run items draws primaries next_records one.left later [] one.queue one.place in
         let same_spot : spot_with (drawn item state.draws) primaries ≡ spot_with next.draws (primaries_in config next) =
         ap (λ (draws : List ℕ). spot_with draws primaries) (draws_after config range run state item) ∙ ap (spot_with next.draws) (primaries_next config range run state item) in
-        let rest = items_played items next (in_order_after config run state item all.0 is) all.1 (fits_later state item items fits) one.left later one.queue one.place one.before one.events
+        let rest = items_played items next (in_order_after config run state item all.0 is) all.1 none.1 (fits_later state item items fits) next_records one.left later one.queue one.place one.before one.events
         (subst (Plays config run whole one.before one.events) same_spot one.plays) told.0 in (
           rest.0,
           sym (same_end s begins same events)
@@ -161,6 +174,7 @@ module _ (config : Shape) (range : InRange config) (run : ℕ) where
   run_ended items events h fits =
       let draws : List ℕ = replicate 64 0 in
       let primaries : List (Option NodeId) = replicate 64 None in
+      let records : List (List ℕ) = replicate 64 [] in
       let plays : Plays config run events [] events (at_first config run items) = record {
         parts = refl;
         follow = h.driven.followed;
@@ -168,14 +182,14 @@ module _ (config : Shape) (range : InRange config) (run : ℕ) where
         next = h.legal.follow;
         quiet = h.quiet;
       } in
-      let restarted = gives config run events items draws primaries nothing_taken [] Restart (nodes_of config) 0 (give Lead (orderer_node config 0) 1 ∷ DeliverAll ∷ []) [] 0 [] events plays in
-      let led = gives config run events items draws primaries nothing_taken [] Lead 1 (orderer_node config 0) (DeliverAll ∷ []) restarted.queue restarted.place restarted.before restarted.events restarted.plays in
-      let opened = delivers config run events items draws primaries nothing_taken [] (length led.events) [] led.queue led.place led.before led.events (omega arith) led.plays in
+      let restarted = gives config run events items draws primaries records nothing_taken [] Restart (nodes_of config) 0 (give Lead (orderer_node config 0) 1 ∷ DeliverAll ∷ []) [] 0 [] events plays in
+      let led = gives config run events items draws primaries records nothing_taken [] Lead 1 (orderer_node config 0) (DeliverAll ∷ []) restarted.queue restarted.place restarted.before restarted.events restarted.plays in
+      let opened = delivers config run events items draws primaries records nothing_taken [] (length led.events) [] led.queue led.place led.before led.events (omega arith) led.plays in
       let opens : IsOpening config (moment_of config [] []) (moment_of config opened.before opened.queue) = record {
         started = moment_of config restarted.before restarted.queue;
         restarts = restarted.reached;
         lead = record { middle = moment_of config led.before led.queue; turns = led.reached; deliveries = opened.reached };
       } in
       let matches = opening_starts config range run (moment_of config [] []) (moment_of config opened.before opened.queue) begins_down opens in
-      let done = items_played events items (start config) (in_order_start config run) h.each fits nothing_taken [] opened.queue opened.place opened.before opened.events opened.plays matches in
+      let done = items_played events items (start config) (in_order_start config run) h.each h.no_faults fits records nothing_taken [] opened.queue opened.place opened.before opened.events opened.plays matches in
       (sym (opened.ending ∙ led.ending ∙ restarted.ending) ∙ done.1, done.0)

@@ -9,7 +9,7 @@ use Rattle.record_frame.specs.declared.entries.Entry.{Entry}
 use Rattle.log_model.specs.Chain.{Standing, Live, Frozen}
 use Rattle.log_model.specs.Lookup.{segment_index}
 use Rattle.command_frame.specs.declared.items.Item.{Item}
-use Rattle.command_frame.specs.declared.items.Item.TheVariants.{Append, Read, Subscribe, Trim, Add, Finalise, Ask}
+use Rattle.command_frame.specs.declared.items.Item.TheVariants.{Append, Read, Subscribe, Trim, Add, Finalise, Ask, Fault}
 use Rattle.command_frame.specs.Items.{IsItem}
 use Rattle.record_frame.specs.declared.values.Value.{Value}
 use Rattle.record_frame.specs.declared.values.Value.TheVariants.{Cut, Add as AddValue, Finalise as FinaliseValue, Trim as TrimValue}
@@ -150,6 +150,7 @@ numbered_after config run state (Finalise lane shard) item is =
     cond_both (knows config.replicas state shard.0) (with_value state (FinaliseValue shard)) state (IsNumbered config run)
     (λ _. numbered_value config run state (FinaliseValue shard) is) (λ _. is)
 numbered_after config run state (Ask lane) item is = is
+numbered_after config run state (Fault lane fault) item is = is
 
 pub in_order_after : (config : Shape) (run : ℕ) (state : LogState) (item : Item) → IsItem config item → IsInOrder config run state
     → IsInOrder config run (after config run state item)

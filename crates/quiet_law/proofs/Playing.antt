@@ -15,7 +15,7 @@ use Rattle.node_model.proofs.Following.{node_here, node_there}
 use Rattle.schedule_model.specs.declared.duties.Duty.{Duty}
 use Rattle.schedule_model.specs.declared.turns.Turn.{Turn}
 use Rattle.schedule_model.specs.Driven.{Follow, after_event, after_events, turn_of}
-use Rattle.schedule_model.specs.Scheduling.{Scheduled, Step, Waiting, due, first_step, is_done, letters_from, next_turn, noted, ready, rest_in, step, turn_in}
+use Rattle.schedule_model.specs.Scheduling.{Scheduled, Step, Waiting, due, first_step, handed, is_done, letters_from, next_turn, noted, ready, rest_in, step, turn_in}
 use Rattle.schedule_model.proofs.Along.{some_is}
 use Rattle.schedule_model.proofs.Ready.{passed-stops, ready-due, ready-passed}
 use Rattle.quiet_model.specs.Moments.{Moment, Takes}
@@ -48,7 +48,7 @@ module _ (s t : Scheduled) (e : ready s ≡ ready t) where
   same_turn = ap (λ (r : Scheduled). turn_in (first_step r r.duties)) e
 
   same_after : (event : Event) → after_event s event ≡ after_event t event
-  same_after event = ap (λ (r : Scheduled). noted (rest_in r (first_step r r.duties)) event.happened.outputs event.happened.reply) e
+  same_after event = ap (λ (r : Scheduled). noted (handed (rest_in r (first_step r r.duties))) event.happened.outputs event.happened.reply) e
 
   same_follow : (events : List Event) → Follow s events → Follow t events
   same_follow [] h = tt
@@ -96,8 +96,8 @@ pub record Stepped (config : Shape) (run : ℕ) (whole before events : List Even
   pub takes : event.happened.input ≡ input
   pub mark : event.happened.mark ≡ quiet_mark input
   pub next : IsNext config run empty_disks before event
-  pub plays : Plays config run whole (before ++ event ∷ []) later (noted rest event.happened.outputs event.happened.reply)
-  pub ends : finally (noted rest event.happened.outputs event.happened.reply) later ≡ finally s events
+  pub plays : Plays config run whole (before ++ event ∷ []) later (noted (handed rest) event.happened.outputs event.happened.reply)
+  pub ends : finally (noted (handed rest) event.happened.outputs event.happened.reply) later ≡ finally s events
 
 pub stepped : (config : Shape) (run : ℕ) (whole before events : List Event) (s : Scheduled) (node : ℕ) (input : Input) (rest : Scheduled)
     → ready s ≡ s → first_step s s.duties ≡ Some (step node input rest) → Plays config run whole before events s
@@ -112,9 +112,9 @@ stepped config run whole before (event ∷ later) s node input rest is first h =
     ap (λ (r : Scheduled). turn_in (first_step r r.duties)) is ∙ ap turn_in first in
     let same : turn_of event ≡ record { node = record { 0 = node }; input = input } = some_is (sym h.follow.0 ∙ turn) in
     let input_is : event.happened.input ≡ input = ap (λ (t : Turn). t.input) same in
-    let after : after_event s event ≡ noted rest event.happened.outputs event.happened.reply =
-    ap (λ (r : Scheduled). noted (rest_in r (first_step r r.duties)) event.happened.outputs event.happened.reply) is
-    ∙ ap (λ (found : Option Step). noted (rest_in s found) event.happened.outputs event.happened.reply) first in
+    let after : after_event s event ≡ noted (handed rest) event.happened.outputs event.happened.reply =
+    ap (λ (r : Scheduled). noted (handed (rest_in r (first_step r r.duties))) event.happened.outputs event.happened.reply) is
+    ∙ ap (λ (found : Option Step). noted (handed (rest_in s found)) event.happened.outputs event.happened.reply) first in
     record {
       event = event;
       later = later;

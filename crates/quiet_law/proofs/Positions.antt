@@ -14,7 +14,7 @@ use Rattle.log_model.specs.Spelling.{spell}
 use Rattle.log_model.proofs.Appending.{chain_of-append, end-apply, end-chain_of}
 use Rattle.log_model.proofs.Spelled.{one_position}
 use Rattle.command_frame.specs.declared.items.Item.{Item}
-use Rattle.command_frame.specs.declared.items.Item.TheVariants.{Append, Read, Subscribe, Trim, Add, Finalise, Ask}
+use Rattle.command_frame.specs.declared.items.Item.TheVariants.{Append, Read, Subscribe, Trim, Add, Finalise, Ask, Fault}
 use Rattle.command_frame.specs.Items.{IsItem}
 use Rattle.plain_log.specs.Coherent.{IsCoherentState}
 use Rattle.plain_log.specs.Log.{LogState, after, after_entry, cut_of, drawn, entries_of, knows, next_entry, standing_of, stored, with_value}
@@ -83,3 +83,4 @@ reaches_after config run state (Finalise lane shard) item is reaches =
     cond_both (knows config.replicas state shard.0) (with_value state (FinaliseValue shard)) state (Reaches config.replicas)
     (λ _. reaches_value config.replicas state (FinaliseValue shard) refl reaches) (λ _. reaches)
 reaches_after config run state (Ask lane) item is reaches = reaches
+reaches_after config run state (Fault lane fault) item is reaches = reaches

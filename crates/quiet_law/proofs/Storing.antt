@@ -47,7 +47,7 @@ use Rattle.quiet_model.specs.Moments.{Moment}
 use Rattle.quiet_model.specs.Settled.{AreLists, IsReplica, ListsOf, list_at}
 use Rattle.quiet_model.proofs.Calling.{submitted}
 use Rattle.quiet_model.proofs.Settling.{settled_by}
-use Rattle.quiet_law.specs.Going.{Goes}
+use Rattle.quiet_law.specs.Going.{Goes, no_scene}
 use Rattle.subscriber.specs.Following.{Following}
 use Rattle.quiet_law.specs.Matching.{AreListsOf, IsDrawn, IsInOrder, Matches, agreed_in, primaries_in}
 use Rattle.quiet_law.proofs.Answering.{replica_answers}
@@ -145,7 +145,7 @@ module _ (config : Shape) (range : InRange config) (run : ℕ) (state : LogState
       → Goes config stream calls (course_of config (Storing (record { 0 = node_id }) client number) reply) before answer after → (answer ≡ submit_reply why) × (after ≡ before))
       → (calls : ℕ) (before after : Moment) (answer : Reply) → (matches : Matches config state before)
       → submit (member_of config shard.0 replica.0) (own_list matches.lists) (knowledge_of (member_of config shard.0 replica.0) state.values) entry ≡ nothing_put why
-      → Goes config stream calls (beginning config run state.draws (primaries_in config state) (Append lane shard replica bytes)) before answer after
+      → Goes config stream calls (beginning config run state.draws (primaries_in config state) no_scene (Append lane shard replica bytes)) before answer after
       → Matches config own_state after × (answer ≡ submit_reply why)
   refused why ends zero before after answer matches e goes = absurd goes
   refused why ends (suc calls) before after answer matches e goes =
@@ -216,7 +216,7 @@ module _ (config : Shape) (range : InRange config) (run : ℕ) (state : LogState
         (subst (Matches config next_state) (sym done.rest.1) stays, done.rest.0 ∙ told.1 ∙ sym position.3)
 
     stored_answered : length state.values < slot_limit → (calls : ℕ) (before after : Moment) (answer : Reply) → Matches config state before
-        → Goes config stream calls (beginning config run state.draws (primaries_in config state) (Append lane shard replica bytes)) before answer after
+        → Goes config stream calls (beginning config run state.draws (primaries_in config state) no_scene (Append lane shard replica bytes)) before answer after
         → Matches config next_state after × (answer ≡ reply_to config run state (Append lane shard replica bytes))
     stored_answered few zero before after answer matches goes = absurd goes
     stored_answered few (suc calls) before after answer matches goes =
@@ -228,7 +228,7 @@ module _ (config : Shape) (range : InRange config) (run : ℕ) (state : LogState
   by_standing : (standing : Option Standing) → standing_of config.replicas state shard.0 ≡ standing
       → length (after_entry config.replicas own_state shard.0 replica.0 entry standing).values ≤ slot_limit
       → (calls : ℕ) (before later : Moment) (answer : Reply) → Matches config state before
-      → Goes config stream calls (beginning config run state.draws (primaries_in config state) (Append lane shard replica bytes)) before answer later
+      → Goes config stream calls (beginning config run state.draws (primaries_in config state) no_scene (Append lane shard replica bytes)) before answer later
       → Matches config (after_entry config.replicas own_state shard.0 replica.0 entry standing) later × (answer ≡ reply_to config run state (Append lane shard replica bytes))
   by_standing None has few calls before later answer matches goes =
       let e = submits matches.lists matches.same (λ live. absurd (let other = sym has ∙ live in cc)) ∙ ap (submitted_by (own_list matches.lists) entry) has in
@@ -250,6 +250,6 @@ module _ (config : Shape) (range : InRange config) (run : ℕ) (state : LogState
 
   pub append_answered : length (after config run state (Append lane shard replica bytes)).values ≤ slot_limit
       → (calls : ℕ) (before later : Moment) (answer : Reply) → Matches config state before
-      → Goes config stream calls (beginning config run state.draws (primaries_in config state) (Append lane shard replica bytes)) before answer later
+      → Goes config stream calls (beginning config run state.draws (primaries_in config state) no_scene (Append lane shard replica bytes)) before answer later
       → Matches config (after config run state (Append lane shard replica bytes)) later × (answer ≡ reply_to config run state (Append lane shard replica bytes))
   append_answered few calls before later answer matches goes = by_standing (standing_of config.replicas state shard.0) refl few calls before later answer matches goes

@@ -304,6 +304,7 @@ each_fits = (
 pub worked_is_quiet : IsQuietRun one_of_each 1 worked_items worked_run
 worked_is_quiet = record {
   each = each_fits;
+  no_faults = (tt, (tt, (tt, tt)));
   legal = worked_is_legal;
   driven = worked_is_driven;
   quiet = (refl, (refl, (refl, (refl, (refl, (refl, (refl, (refl, (refl, (refl, (refl, (refl, (refl, (refl, (refl, (refl, (refl, (refl, (refl, (refl, (refl, (refl, (refl, (refl, (refl, (refl, (refl, (refl, (refl, (refl, (refl, (refl, (refl, (refl, (refl, tt)))))))))))))))))))))))))))))))))));

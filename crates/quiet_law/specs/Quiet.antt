@@ -2,7 +2,7 @@
 use Rattle.std.specs.Prelude.{◌≡◌, ◌<◌, ◌≤◌, ℕ, List, [], length, take}
 use Rattle.std.specs.List.{AllByRecursion}
 use Rattle.command_frame.specs.declared.items.Item.{Item}
-use Rattle.command_frame.specs.Items.{IsItem}
+use Rattle.command_frame.specs.Items.{IsItem, IsNoFault}
 use Rattle.history_frame.specs.declared.events.Event.{Event}
 use Rattle.history_frame.specs.declared.inputs.Input.{Input}
 use Rattle.history_frame.specs.declared.inputs.Input.TheVariants.{Deliver, Call, Tick, Lead, Stop, Restart}
@@ -38,9 +38,10 @@ TellsNoFailure StayedDown = ⊥
 abbrev pub IsQuiet : Event → Type 0
 IsQuiet event = event.happened.mark ≡ quiet_mark event.happened.input
 
--- A legal history over empty disks that is driven by items, and in which no disk fails.
+-- A legal history over empty disks that is driven by items, none of which is a line of the fault script, and in which no disk fails.
 pub record IsQuietRun (config : Shape) (run : ℕ) (items : List Item) (events : List Event) : Type 0 where
   pub each : AllByRecursion (IsItem config) items
+  pub no_faults : AllByRecursion IsNoFault items
   pub legal : IsLegal config run empty_disks events
   pub driven : IsDriven config run items events
   pub quiet : AllByRecursion IsQuiet events

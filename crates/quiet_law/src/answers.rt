@@ -6,10 +6,10 @@ ghost use Rattle.std.specs.List.{AllByRecursion};
 ghost use Rattle.log_base.specs.ClusterShape.{InRange, Shape};
 ghost use Rattle.paxos_model.specs.Leader.{slot_limit};
 ghost use Rattle.command_frame.specs.declared.items.Item.{Item};
-ghost use Rattle.command_frame.specs.Items.{IsItem};
+ghost use Rattle.command_frame.specs.Items.{IsItem, IsNoFault};
 ghost use Rattle.reply_frame.specs.declared.replies.Reply.{Reply};
 ghost use Rattle.plain_log.specs.Log.{LogState, after, log_of, reply_to, start, state_after};
-ghost use Rattle.schedule_model.specs.Courses.{beginning};
+ghost use Rattle.schedule_model.specs.Courses.{Scene, beginning};
 ghost use Rattle.schedule_model.specs.Scheduling.{stream_before};
 ghost use Rattle.subscriber.specs.Following.{Following};
 ghost use Rattle.quiet_model.specs.Moments.{Moment};
@@ -27,18 +27,19 @@ pub fn opening_starts_the_log()
         → Matches config (start config) after × IsInOrder config run (start config) }
 {}
 
-/// An item that goes from a moment that is as the log has it is answered as the log answers, and leads to a
-/// moment that is as the log has it then, while there are slots for the values of the log.
+/// An item that is no line of the fault script, and goes from a moment that is as the log has it, is answered as
+/// the log answers, and leads to a moment that is as the log has it then, while there are slots for the values of the log.
 pub fn item_is_answered_as_in_the_log()
     ensures { (config : Shape)
         → InRange config
         → (run : ℕ) (state : LogState) (item : Item)
         → IsInOrder config run state
         → IsItem config item
+        → IsNoFault item
         → length (after config run state item).values ≤ slot_limit
-        → (stream : Following) (calls : ℕ) (before later : Moment) (answer : Reply)
+        → (scene : Scene) (stream : Following) (calls : ℕ) (before later : Moment) (answer : Reply)
         → Matches config state before
-        → Goes config (stream_before item stream) calls (beginning config run state.draws (primaries_in config state) item) before answer later
+        → Goes config (stream_before item stream) calls (beginning config run state.draws (primaries_in config state) scene item) before answer later
         → Matches config (after config run state item) later × (answer ≡ reply_to config run state item) × IsInOrder config run (after config run state item) }
 {}
 
@@ -49,6 +50,7 @@ pub fn run_is_answered_as_the_log()
         → InRange config
         → (run : ℕ) (items : List Item)
         → AllByRecursion (IsItem config) items
+        → AllByRecursion IsNoFault items
         → length (state_after config run (start config) items).values ≤ slot_limit
         → (before first later : Moment) (answers : List Reply)
         → IsBeginning config before
