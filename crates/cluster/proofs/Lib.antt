@@ -1,5 +1,6 @@
 pub mod Begins
 pub mod Brief
+pub mod Charging
 pub mod Choosing
 pub mod Closed
 pub mod Empty

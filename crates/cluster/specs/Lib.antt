@@ -1,3 +1,4 @@
+pub mod Accounting
 pub mod Clusters
 pub mod Events
 pub mod History

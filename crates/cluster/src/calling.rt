@@ -11,6 +11,7 @@ ghost use Rattle.node_model.specs.Machine.{delivery, node_meanings};
 ghost use Rattle.node_model.specs.Sound.{payloads_on};
 ghost use Rattle.node_table.specs.Numbering.{nodes_of, orderer_node, role_at};
 ghost use Rattle.tied_cells.specs.Turns.{HasLeft, HoldsNothing};
+ghost use Rattle.cluster.specs.Accounting.{ChargesCall, ChargesTurn, IsCharged};
 ghost use Rattle.cluster.specs.Clusters.{IsPassOf};
 ghost use Rattle.cluster.specs.Submitting.{MaySubmit};
 ghost use Rattle.cluster.specs.Events.{AnswersCall, AnswersLead, FitsAlways, GivenUnder, HeldAt, IsGiven, IsIdle};
@@ -54,6 +55,8 @@ fn give_under<J: Journal + Drop, P: Places>(
     ensures held { HeldAt (cluster_node J.state) pass.new.seat.me node.0 held.new.cell }
     ensures ok { IfOk result (λ made. GivenUnder pass.old.seat.me pass.new.seat.me node.0 made.0 held.old.cell.events.items out.new.letters input made.1) }
     ensures err { OnErr result (pass.new.seat.me ≡ pass.old.seat.me) }
+    ensures charged { IfOk result (λ made. IsCharged pass.old.account pass.new.account pass.old.seat.me.0.own pass.new.seat.me.0.own) }
+    ensures kept { OnErr result (pass.new.account ≡ pass.old.account) }
 {
     cells.ready_commit(held)?;
     let room = Vec::with_capacity(alloc, LARGEST_REPLY)?;
@@ -82,6 +85,8 @@ impl<J: Journal + Drop, P: Places> Cluster<J, P> {
         ensures pass { IsPassOf (shape self.now.config) self.now.run (payloads_on self.now.kept) self.now.cells.table.shared.table_id pass.old.account.number pass.new.seat }
         ensures answer { IfOk result (λ called. AnswersCall (nodes_of (shape self.now.config)) node.0 call pass.old.account pass.old.seat.me pass.new.seat.me called) }
         ensures memory { OnErr result (IsIdle pass.old.seat.me pass.new.seat.me) }
+        ensures account { IfOk result (λ called. ChargesCall pass.old.account pass.new.account pass.old.seat.me.0.own pass.new.seat.me.0.own called) }
+        ensures kept { OnErr result (pass.new.account ≡ pass.old.account) }
     {
         if self.cells.spent(pass) {
             return Ok(Called::Spent);
@@ -107,6 +112,8 @@ impl<J: Journal + Drop, P: Places> Cluster<J, P> {
         ensures pass { IsPassOf (shape self.now.config) self.now.run (payloads_on self.now.kept) self.now.cells.table.shared.table_id pass.old.account.number pass.new.seat }
         ensures answer { IfOk result (λ turn. AnswersLead (nodes_of (shape self.now.config)) (orderer_node (shape self.now.config) index) pass.old.account pass.old.seat.me pass.new.seat.me turn) }
         ensures memory { OnErr result (IsIdle pass.old.seat.me pass.new.seat.me) }
+        ensures account { IfOk result (λ turn. ChargesTurn pass.old.account pass.new.account pass.old.seat.me.0.own pass.new.seat.me.0.own turn) }
+        ensures kept { OnErr result (pass.new.account ≡ pass.old.account) }
     {
         if self.cells.spent(pass) {
             return Ok(Turn::Spent);
@@ -145,6 +152,8 @@ impl<J: Journal + Drop, P: Places> Cluster<J, P> {
         ensures free { HoldsNothing pass.new.seat.me }
         ensures ok { IfOk result (λ given. IsGiven (nodes_of (shape self.now.config)) pass.old.seat.me pass.new.seat.me node.0 given.place given.lost held.cell.events.items input given.reply) }
         ensures memory { OnErr result (IsIdle pass.old.seat.me pass.new.seat.me) }
+        ensures charged { IfOk result (λ given. IsCharged pass.old.account pass.new.account pass.old.seat.me.0.own pass.new.seat.me.0.own) }
+        ensures kept { OnErr result (pass.new.account ≡ pass.old.account) }
     {
         let mut held = held;
         let mut out = Outbox::new(self.alloc);

@@ -36,6 +36,7 @@ impl<J: Journal + Drop, P: Places> Cluster<J, P> {
         ensures same { pass.new.seat.table_id ≡ pass.old.seat.table_id }
         ensures go_out { AllGoOut (nodes_of (shape self.now.config)) place 0 out.old.letters (let_go pass.old.seat.me.0, []) pass.new.seat.me result }
         ensures mail { IsMail (let_go pass.old.seat.me.0, []) pass.new.seat.me }
+        ensures account { pass.new.account ≡ pass.old.account }
     {
         self.cells.release(pass, held);
         post_all(&self.cells, nodes(&self.config), pass, place, out)

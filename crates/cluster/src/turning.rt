@@ -14,6 +14,7 @@ ghost use Rattle.tied_cells.specs.Turns.{HasLeft, HoldsNothing};
 ghost use Rattle.tied_cells.specs.Boxes.{Fetches};
 ghost use Rattle.tied_cells.specs.declared.letter.Letter.{Letter as Mail};
 ghost use Rattle.tied_cells.specs.declared.mail.Fetched.TheVariants.{Letter as GotLetter};
+ghost use Rattle.cluster.specs.Accounting.{ChargesTurn, IsCharged};
 ghost use Rattle.cluster.specs.Clusters.{IsPassOf};
 ghost use Rattle.cluster.specs.Events.{AnswersTurn, Delivers, HeldAt, IsIdle, IsTurn, IsTurnInput, TurnsUnder};
 
@@ -89,6 +90,8 @@ fn turn_under<J: Journal + Drop, P: Places>(
     ensures held { HeldAt (cluster_node J.state) pass.new.seat.me node.0 held.new.cell }
     ensures ok { IfOk result (λ place. TurnsUnder pass.old.seat.me pass.new.seat.me node.0 place held.old.cell.events.items out.new.letters) }
     ensures err { OnErr result (IsIdle pass.old.seat.me pass.new.seat.me) }
+    ensures charged { IfOk result (λ place. IsCharged pass.old.account pass.new.account pass.old.seat.me.0.own pass.new.seat.me.0.own) }
+    ensures kept { OnErr result (pass.new.account ≡ pass.old.account) }
 {
     cells.ready_commit(held)?;
     let down = held.machine().is_down();
@@ -108,6 +111,8 @@ impl<J: Journal + Drop, P: Places> Cluster<J, P> {
         ensures pass { IsPassOf (shape self.now.config) self.now.run (payloads_on self.now.kept) self.now.cells.table.shared.table_id pass.old.account.number pass.new.seat }
         ensures answer { IfOk result (λ turn. AnswersTurn (nodes_of (shape self.now.config)) node.0 pass.old.account pass.old.seat.me pass.new.seat.me turn) }
         ensures memory { OnErr result (IsIdle pass.old.seat.me pass.new.seat.me) }
+        ensures account { IfOk result (λ turn. ChargesTurn pass.old.account pass.new.account pass.old.seat.me.0.own pass.new.seat.me.0.own turn) }
+        ensures kept { OnErr result (pass.new.account ≡ pass.old.account) }
     {
         if self.cells.spent(pass) {
             return Ok(Turn::Spent);
@@ -136,6 +141,8 @@ impl<J: Journal + Drop, P: Places> Cluster<J, P> {
         ensures free { HoldsNothing pass.new.seat.me }
         ensures ok { IfOk result (λ made. IsTurn (nodes_of (shape self.now.config)) pass.old.seat.me pass.old.seat.me pass.new.seat.me node.0 made.0 made.1 held.cell.events.items) }
         ensures memory { OnErr result (IsIdle pass.old.seat.me pass.new.seat.me) }
+        ensures charged { IfOk result (λ made. IsCharged pass.old.account pass.new.account pass.old.seat.me.0.own pass.new.seat.me.0.own) }
+        ensures kept { OnErr result (pass.new.account ≡ pass.old.account) }
     {
         let mut held = held;
         let mut out = Outbox::new(self.alloc);

@@ -3,6 +3,7 @@ use Rattle.core_step.specs.Standing.{cluster_node}
 use Rattle.node_model.specs.Machine.{ClusterNode, node_meanings}
 use Rattle.tied_cells.specs.History.{StandsAfter}
 use Rattle.tied_cells.specs.Turns.{HasTurn, IsLastFetched}
+use Rattle.cluster.proofs.Charging.{charged_at}
 use Rattle.cluster.proofs.Holding.{given_under, has_stepped, held_moves, turn_moves}
 use Rattle.cluster.proofs.Sizes.{acts_single, acts_small}
 use Rattle.cluster.proofs.calling.give_under.Goals as goal
@@ -65,3 +66,9 @@ returns-clause-ok g c =
     c.machine.result.now (ap S (c.machine.ensures.now ∙ c.ready_commit.ensures.same.1)) c.args.input c.in_ok-stepped.stepped.happened c.act.new.out.letters c.in_ok-stepped.ensures.acts
     c.commit-place.new.pass.seat.me c.commit-place.result _ c.commit-place.ensures.view c.ready_commit.new.held.node.0
     (ap (λ n. n.0) (c.ready_commit.ensures.same.0 ∙ c.requires.node.1)) c.commit-place.ensures.placed c.requires.quiet refl c.copy_reply-reply.result c.copy_reply-reply.ensures
+
+pub returns-clause-charged : goal.returns-clause-charged
+returns-clause-charged g c =
+    let me = c.args.pass.now.seat.me in let account = c.args.pass.now.account in
+    charged_at me me c.commit-place.new.pass.seat.me account account c.commit-place.new.pass.account c.commit-place.result c.in_ok-stepped.stepped.bytes c.in_ok-stepped.stepped.happened _
+    refl c.commit-place.ensures.view refl c.in_ok-stepped.ensures.bytes c.commit-place.ensures.account

@@ -6,6 +6,7 @@ use Rattle.tied_cells.specs.declared.mail.Fetched.TheVariants.{Letter as GotLett
 use Rattle.tied_cells.specs.History.{StandsAfter}
 use Rattle.tied_cells.specs.Turns.{HasLeft, HasTurn}
 use Rattle.cluster.specs.Events.{IsIdle}
+use Rattle.cluster.proofs.Charging.{charged_at}
 use Rattle.cluster.proofs.Choosing.{chosen_fits, chosen_last, chosen_only, chosen_spelled, fetches_only, on_err}
 use Rattle.cluster.proofs.Holding.{has_stepped, held_moves, turn_moves, turns_under}
 use Rattle.cluster.proofs.Making.{fetched_idle, idle_none}
@@ -95,3 +96,9 @@ returns-clause-ok g c =
     c.machine-2.result.now was input c.in_ok-stepped.stepped.happened c.act.new.out.letters c.in_ok-stepped.ensures.acts
     c.commit-place.new.pass.seat.me c.commit-place.result _ c.commit-place.ensures.view c.ready_commit.new.held.node.0
     (ap (λ n. n.0) (c.ready_commit.ensures.same.0 ∙ c.requires.node.1)) c.commit-place.ensures.placed down down_is chosen
+
+pub returns-clause-charged : goal.returns-clause-charged
+returns-clause-charged g c =
+    let me = c.args.pass.now.seat.me in let me' = c.choose.new.pass.seat.me in
+    charged_at me me' c.commit-place.new.pass.seat.me c.args.pass.now.account c.choose.new.pass.account c.commit-place.new.pass.account c.commit-place.result c.in_ok-stepped.stepped.bytes c.in_ok-stepped.stepped.happened _
+    (chosen_only c.is_down-down.result c.args.node.0 me me' c.in_ok-input.input c.in_ok-input.ensures.chosen) c.commit-place.ensures.view c.choose.ensures.same.1 c.in_ok-stepped.ensures.bytes c.commit-place.ensures.account

@@ -1,4 +1,4 @@
-use Rattle.std.proofs.Common.{List, sym, subst, ◌∙◌}
+use Rattle.std.proofs.Common.{List, sym, subst, ◌∙◌, refl}
 use Rattle.core_step.specs.Standing.{cluster_node}
 use Rattle.history_frame.specs.declared.inputs.Input.TheVariants.{Call as ACall}
 use Rattle.log_base.specs.Shape.{shape}
@@ -7,6 +7,7 @@ use Rattle.node_model.specs.Sound.{payloads_on}
 use Rattle.node_table.specs.Numbering.{nodes_of, role_at}
 use Rattle.tied_cells.specs.Turns.{HasLeft}
 use Rattle.cluster.specs.Events.{FitsAlways}
+use Rattle.cluster.proofs.Charging.{charged_moves}
 use Rattle.cluster.proofs.Giving.{call_fits, call_spelled}
 use Rattle.cluster.proofs.Holding.{held_at, left_over}
 use Rattle.cluster.proofs.Making.{given_from, idle_from}
@@ -63,3 +64,8 @@ returns-in-Ok-clause-pass g c = let t = c.in-Held.ensures.outcome in let es = c.
     pass_given (shape c.args.self.now.config) c.args.self.now.run (payloads_on c.args.self.now.kept) c.args.self.now.cells.table.shared.table_id c.args.pass.now.account.number c.args.pass.now.seat c.give_held.new.pass.seat c.requires.pass (c.give_held.ensures.same ∙ c.take.ensures.same.0) nodes c.args.node.0 c.in-Ok.given.place c.in-Ok.given.lost es (ACall c.args.call) c.in-Ok.given.reply
     (given_from nodes c.args.pass.now.seat.me c.take.new.pass.seat.me c.give_held.new.pass.seat.me c.args.node.0 c.in-Ok.given.place c.in-Ok.given.lost es (ACall c.args.call) c.in-Ok.given.reply t.1 c.in-Ok.ensures.ok)
     c.requires.submits
+
+pub returns-in-Ok-clause-account : goal.returns-in-Ok-clause-account
+returns-in-Ok-clause-account g c = let t = c.in-Held.ensures.outcome in
+    charged_moves c.take.new.pass.account c.args.pass.now.account c.give_held.new.pass.account c.give_held.new.pass.account c.take.new.pass.seat.me.0.own c.args.pass.now.seat.me.0.own c.give_held.new.pass.seat.me.0.own c.give_held.new.pass.seat.me.0.own
+    c.in-Ok.ensures.charged (sym c.take.ensures.same.1) refl (λ i. (sym t.1 i).0.own) refl

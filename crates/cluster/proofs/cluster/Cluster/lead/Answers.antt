@@ -8,6 +8,7 @@ use Rattle.node_table.specs.Numbering.{nodes_of, orderer_node}
 use Rattle.tied_cells.specs.Turns.{HasLeft}
 use Rattle.cluster.specs.declared.answering.Turn.TheVariants.{Busy, Handled}
 use Rattle.cluster.specs.Events.{AnswersLead, FitsAlways}
+use Rattle.cluster.proofs.Charging.{charged_moves}
 use Rattle.cluster.proofs.Giving.{lead_fits}
 use Rattle.cluster.proofs.Holding.{held_at, left_over}
 use Rattle.cluster.proofs.Making.{given_from, idle_from}
@@ -70,3 +71,8 @@ returns-in-Ok-clause-pass g c = let t = c.in-Held.ensures.outcome in let es = c.
     pass_given (shape c.args.self.now.config) c.args.self.now.run (payloads_on c.args.self.now.kept) c.args.self.now.cells.table.shared.table_id c.args.pass.now.account.number c.args.pass.now.seat c.give_held.new.pass.seat c.requires.pass (c.give_held.ensures.same ∙ c.take.ensures.same.0) nodes c.orderer-node.result.0 c.in-Ok.given.place c.in-Ok.given.lost es Lead c.in-Ok.given.reply
     (given_from nodes c.args.pass.now.seat.me c.take.new.pass.seat.me c.give_held.new.pass.seat.me c.orderer-node.result.0 c.in-Ok.given.place c.in-Ok.given.lost es Lead c.in-Ok.given.reply t.1 c.in-Ok.ensures.ok)
     (submits_none c.args.self.now.run c.args.pass.now.account.number c.orderer-node.result.0 c.args.pass.now.seat.me.0.own Lead refl)
+
+pub returns-in-Ok-clause-account : goal.returns-in-Ok-clause-account
+returns-in-Ok-clause-account g c = let t = c.in-Held.ensures.outcome in
+    charged_moves c.take.new.pass.account c.args.pass.now.account c.give_held.new.pass.account c.give_held.new.pass.account c.take.new.pass.seat.me.0.own c.args.pass.now.seat.me.0.own c.give_held.new.pass.seat.me.0.own c.give_held.new.pass.seat.me.0.own
+    c.in-Ok.ensures.charged (sym c.take.ensures.same.1) refl (λ i. (sym t.1 i).0.own) refl

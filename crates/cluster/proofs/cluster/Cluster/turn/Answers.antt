@@ -1,9 +1,10 @@
-use Rattle.std.proofs.Common.{sym, subst, ◌∙◌}
+use Rattle.std.proofs.Common.{sym, subst, ◌∙◌, refl}
 use Rattle.core_step.specs.Standing.{cluster_node}
 use Rattle.node_table.specs.Numbering.{nodes_of}
 use Rattle.log_base.specs.Shape.{shape}
 use Rattle.tied_cells.specs.Turns.{HasLeft}
 use Rattle.cluster.specs.Events.{at_turn}
+use Rattle.cluster.proofs.Charging.{charged_moves}
 use Rattle.cluster.proofs.Holding.{held_at, left_over}
 use Rattle.cluster.proofs.Making.{idle_from, turn_from}
 use Rattle.node_model.specs.Sound.{payloads_on}
@@ -51,3 +52,8 @@ pub returns-in-Ok-clause-pass : goal.returns-in-Ok-clause-pass
 returns-in-Ok-clause-pass g c = let t = c.in-Held.ensures.outcome in let es = c.in-Held.held.cell.events.items in let nodes = nodes_of (shape c.args.self.now.config) in
     pass_turn (shape c.args.self.now.config) c.args.self.now.run (payloads_on c.args.self.now.kept) c.args.self.now.cells.table.shared.table_id c.args.pass.now.account.number c.args.pass.now.seat c.turn_held.new.pass.seat c.requires.pass (c.turn_held.ensures.same ∙ c.take.ensures.same.0) nodes c.args.node.0 c.in-Ok.place c.in-Ok.lost (at_turn c.args.pass.now.seat.me c.args.node.0 es) es
     (turn_from nodes c.args.pass.now.seat.me c.take.new.pass.seat.me c.turn_held.new.pass.seat.me c.args.node.0 c.in-Ok.place c.in-Ok.lost es t.1 c.in-Ok.ensures.ok)
+
+pub returns-in-Ok-clause-account : goal.returns-in-Ok-clause-account
+returns-in-Ok-clause-account g c = let t = c.in-Held.ensures.outcome in
+    charged_moves c.take.new.pass.account c.args.pass.now.account c.turn_held.new.pass.account c.turn_held.new.pass.account c.take.new.pass.seat.me.0.own c.args.pass.now.seat.me.0.own c.turn_held.new.pass.seat.me.0.own c.turn_held.new.pass.seat.me.0.own
+    c.in-Ok.ensures.charged (sym c.take.ensures.same.1) refl (λ i. (sym t.1 i).0.own) refl

@@ -1,10 +1,11 @@
-use Rattle.std.proofs.Common.{ℕ, sym, ap, subst}
+use Rattle.std.proofs.Common.{ℕ, sym, ap, subst, refl}
 use Rattle.core_step.specs.Standing.{cluster_node}
 use Rattle.node_model.specs.Machine.{node_meanings}
 use Rattle.node_table.specs.Numbering.{nodes_of}
 use Rattle.log_base.specs.Shape.{shape}
 use Rattle.tied_cells.specs.History.{StandsAfter}
 use Rattle.tied_cells.specs.Turns.{HasTurn}
+use Rattle.cluster.proofs.Charging.{charged_moves}
 use Rattle.cluster.proofs.Holding.{few_letters, nothing_held, turn_done}
 use Rattle.cluster.proofs.Making.{has_outputs, idle_after}
 use Rattle.cluster.proofs.cluster.Cluster.turn_held.Goals as goal
@@ -37,3 +38,8 @@ returns-in-Err-clause-free g c = nothing_held c.turn_under.new.pass.seat.me c.re
 
 pub returns-in-Err-clause-memory : goal.returns-in-Err-clause-memory
 returns-in-Err-clause-memory g c = idle_after c.args.pass.now.seat.me c.turn_under.new.pass.seat.me c.release.new.pass.seat.me c.in-Err.ensures.err c.release.ensures.view
+
+pub returns-in-Ok-clause-charged : goal.returns-in-Ok-clause-charged
+returns-in-Ok-clause-charged g c =
+    charged_moves c.args.pass.now.account c.args.pass.now.account c.turn_under.new.pass.account c.finish-lost.new.pass.account c.args.pass.now.seat.me.0.own c.args.pass.now.seat.me.0.own c.turn_under.new.pass.seat.me.0.own c.finish-lost.new.pass.seat.me.0.own
+    c.in-Ok.ensures.charged refl c.finish-lost.ensures.account refl (λ i. (c.finish-lost.ensures.mail i).0.own)
