@@ -7,6 +7,7 @@ mod calling;
 mod closing;
 mod cluster;
 mod finishing;
+mod parts;
 mod posting;
 mod replying;
 mod sizing;
