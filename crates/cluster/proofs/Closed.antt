@@ -1,18 +1,22 @@
 -- What closed cells leave is a legal history with the events of the passes, and nodes that stand after it.
-use Rattle.std.proofs.Common.{◌≡◌, ◌<◌, ℕ, ◌+◌, List, map, length, slice_get, Some, eq-eqb, refl, sym, ap, ◌∙◌, subst, arith}
+use Rattle.std.proofs.Common.{◌≡◌, ◌<◌, ◌≤◌, ℕ, ◌+◌, List, map, length, slice_get, Some, eq-eqb, refl, sym, ap, ◌∙◌, subst, arith}
+use Rattle.std.specs.List.{AllByRecursion}
 use Rattle.std.specs.Option.{option_map}
 use Rattle.std.proofs.lemmas.List.{length-map}
 use Rattle.std.proofs.lemmas.Option.{slice_get-map}
+use Rattle.answer_law.specs.Frames.{FitsFrame}
+use Rattle.answer_law.proofs.Spelled.{events_spelled}
 use Rattle.atomic_table.specs.declared.shared.Seat.{Seat}
 use Rattle.history_frame.specs.declared.events.Event.{Event}
 use Rattle.history_frame.specs.declared.events.Happened.{Happened}
 use Rattle.history_frame.specs.declared.events.History.{History}
 use Rattle.history_frame.specs.declared.events.Kept.{Kept}
+use Rattle.history_frame.specs.Spelling.{DisksRise, InPlace, IsHistory, IsKept}
 use Rattle.log_base.specs.ClusterShape.{InRange, Shape}
 use Rattle.log_base.specs.Shape.{shape}
 use Rattle.log_base.specs.Machines.{state_after as machine_after}
 use Rattle.log_base.specs.declared.machine.Committed.{Committed}
-use Rattle.node_model.specs.Legal.{IsLegal}
+use Rattle.node_model.specs.Legal.{IsLawful, IsLegal}
 use Rattle.node_model.specs.Machine.{ClusterNode, node_meanings}
 use Rattle.node_model.specs.Sound.{payloads_on}
 use Rattle.tied_cells.specs.Closing.{AreAll, IsOneHistory}
@@ -78,3 +82,15 @@ module _ {A : Type 0} (state : A → ClusterNode) (config : Shape) (run : ℕ) (
 
     pub legal_so : IsLegal config run (payloads_on kept) history.events
     legal_so = subst (IsLegal config run (payloads_on kept)) (sym events_are) legal
+
+-- a lawful history of events that fit their frames has a spelling, where what was kept has
+pub spelled_so : (run : ℕ) (kept : List Kept) (history : History) → (1 ≤ run) × (run ≤ 1000000) → history.run ≡ run → history.kept ≡ kept → IsLawful history
+    → AllByRecursion (λ (event : Event). FitsFrame event.happened) history.events → InPlace 0 history.events → DisksRise 0 kept → AllByRecursion IsKept kept → IsHistory history
+spelled_so run kept history numbered run_is kept_is lawful fit places rise fits = record {
+  some_run = subst (λ (n : ℕ). 1 ≤ n) (sym run_is) numbered.0;
+  run = subst (λ (n : ℕ). n ≤ 1000000) (sym run_is) numbered.1;
+  disks = subst (DisksRise 0) (sym kept_is) rise;
+  kept = subst (AllByRecursion IsKept) (sym kept_is) fits;
+  places = places;
+  events = events_spelled (shape history.config) history.run (payloads_on history.kept) history.events lawful fit;
+}

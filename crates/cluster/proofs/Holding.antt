@@ -71,7 +71,7 @@ module _ {A : Type 0} (state : A → ClusterNode) where
             happened = happened;
             commits = committed;
             letters_are = acts.letters_are;
-            few = acts.few;
+            fits_frame = record { few = acts.few; small = acts.size };
             start = at.stands.0;
             starts_so = at.stands.1;
             taken = taken;
@@ -85,7 +85,7 @@ module _ {A : Type 0} (state : A → ClusterNode) where
         happened = happened;
         commits = committed;
         letters_are = acts.letters_are;
-        few = acts.few;
+        fits_frame = record { few = acts.few; small = acts.size };
         input_is = acts.input_is;
         reply_is = sym reply_is;
         fetched = left ∙ (ap (λ o. undelivered o taken.0.fetched) quiet ∙ kept);
@@ -107,7 +107,7 @@ module _ {A : Type 0} where
       → AllGoOut nodes place 0 letters (let_go done.0, []) new lost → IsMail (let_go done.0, []) new → IsTurn nodes held held new node place lost es
   turn_done nodes held done new node place lost es letters t out mail = record {
     happened = t.happened;
-    event = event_is nodes held done (let_go done.0, []) new node place lost es t.happened letters t.commits refl t.letters_are out mail;
+    event = event_is nodes held done (let_go done.0, []) new node place lost es t.happened letters t.commits refl t.letters_are t.fits_frame out mail;
     start = t.start;
     starts_so = t.starts_so;
     taken = t.taken;
@@ -120,7 +120,7 @@ module _ {A : Type 0} where
       → IsGiven nodes held new node place lost es input reply
   given_done nodes held done new node place lost es letters input reply t out mail = record {
     happened = t.happened;
-    event = event_is nodes held done (let_go done.0, []) new node place lost es t.happened letters t.commits refl t.letters_are out mail;
+    event = event_is nodes held done (let_go done.0, []) new node place lost es t.happened letters t.commits refl t.letters_are t.fits_frame out mail;
     input_is = t.input_is;
     reply_is = t.reply_is;
     fetched = (λ i. (mail i).0.fetched) ∙ t.fetched;

@@ -4,6 +4,7 @@ pub mod Charging
 pub mod Choosing
 pub mod Closed
 pub mod Empty
+pub mod Fitting
 pub mod Giving
 pub mod GoingOut
 pub mod Holding

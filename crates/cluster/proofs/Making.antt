@@ -1,5 +1,6 @@
 -- From the steps of a call to its event.
 use Rattle.std.proofs.Common.{◌≡◌, ◌⊎◌, ℕ, List, [], ◌∷◌, ◌++◌, Bool, true, false, map, slice_get, Some, None, refl, sym, ap, subst, ◌∙◌, inl, inr, ⊎_elim}
+use Rattle.answer_law.specs.Frames.{FitsFrame}
 use Rattle.core_step.specs.Known.{is_down}
 use Rattle.history_frame.specs.declared.inputs.Input.{Input}
 use Rattle.history_frame.specs.declared.events.Happened.{Happened}
@@ -79,12 +80,13 @@ module _ {A : Type 0} where
 
   -- the turn was given back and the letters went out
   pub event_is : (nodes : ℕ) (held done after new : Holder A) (node place lost : ℕ) (es : List (Committed Happened)) (happened : Happened) (letters : List (ℕ × List ℕ))
-      → Commits held done node place es happened → after ≡ (let_go done.0, []) → letters ≡ map posted happened.outputs → AllGoOut nodes place 0 letters after new lost → IsMail after new
+      → Commits held done node place es happened → after ≡ (let_go done.0, []) → letters ≡ map posted happened.outputs → FitsFrame happened → AllGoOut nodes place 0 letters after new lost → IsMail after new
       → IsEvent nodes held new node place lost es happened
-  event_is nodes held done after new node place lost es happened letters c gone is out mail = record {
+  event_is nodes held done after new node place lost es happened letters c gone is fits_frame out mail = record {
     same = same_more held done new c.same (same_more done after new (let_go_same done after gone) (mail_same after new mail));
     own = (λ i. (mail i).0.own) ∙ ((λ i. (gone i).0.own) ∙ c.own);
     placed = c.placed;
+    fits_frame = fits_frame;
     free = ((λ i. (mail i).0.turn) ∙ (λ i. (gone i).0.turn), (λ i. (mail i).1) ∙ (λ i. (gone i).1));
     committed = after;
     posted_are = (λ i. (gone i).0.posted) ∙ c.posted_are;
@@ -98,6 +100,7 @@ module _ {A : Type 0} where
     same = same_more old held new (held_same old held node es h) e.same;
     own = e.own ∙ (λ i. (h i).0.own ++ own_event place node happened ∷ []);
     placed = subst (λ starts. IsPlaced node_meanings starts (record { node = node; events = es }) place happened) (λ i. (h i).0.deal.starts) e.placed;
+    fits_frame = e.fits_frame;
     free = e.free;
     committed = e.committed;
     posted_are = e.posted_are ∙ (λ i. (h i).0.posted);

@@ -3,6 +3,7 @@ use Rattle.std.proofs.Common.{◌≡◌, ◌⊎◌, ◌<◌, ◌≤◌, ℕ, zer
 use Rattle.std.proofs.lemmas.List.{length-map}
 use Rattle.std.specs.Option.{option_map}
 use Rattle.std.proofs.lemmas.Option.{none-some, same_Some, slice_get-map}
+use Rattle.answer_law.specs.Frames.{FitsFrame}
 use Rattle.history_frame.specs.declared.events.Happened.{Happened}
 use Rattle.history_frame.specs.declared.inputs.Input.{Input}
 use Rattle.history_frame.specs.declared.inputs.Input.TheVariants.{Lead, Restart}
@@ -22,11 +23,12 @@ use Rattle.node_model.specs.NodeState.{KeptLists}
 use Rattle.node_model.specs.Sound.{AreSound, IsBefore, IsSound, IsSoundAs}
 use Rattle.tied_cells.specs.Opening.{AreLeft, HasRoomFor, MayOpen, asked_by, owns_from, sizes_of_events}
 use Rattle.tied_cells.specs.declared.board.Own.{Own}
-use Rattle.cluster.specs.Clusters.{AreFirst, IsBegun}
+use Rattle.cluster.specs.Clusters.{AllFit, AreFirst, IsBegun}
 use Rattle.cluster.specs.Opening.{opening, opening_room, restarts_from}
 use Rattle.cluster.specs.Submitting.{SubmitsAlone}
 use Rattle.cluster.proofs.Brief.{brief_row}
 use Rattle.cluster.proofs.Choosing.{restart_fits}
+use Rattle.cluster.proofs.Fitting.{brief_fits}
 use Rattle.cluster.proofs.Giving.{given_lead, stays}
 
 -- lists that are sound before a run are so whatever their numbers
@@ -100,6 +102,12 @@ at_map : {A B : Type 0} (f : A → B) (xs : List A) (y : B) (ys : List B) → sl
 at_map f [] y ys = refl
 at_map f (x ∷ xs) y ys = at_map f xs y ys
 
+-- what is so of each event is so of those of the pass that made them
+owns_fit : (place : ℕ) (log : List (Event Happened)) → ((k : ℕ) (event : Event Happened) → slice_get log k ≡ Some event → FitsFrame event.happened) → AllFit (owns_from place log)
+owns_fit place [] fit k own there = absurd (none-some own there)
+owns_fit place (event ∷ log) fit zero own there = subst (λ (o : Own Happened). FitsFrame o.happened) (same_Some _ own there) (fit zero event refl)
+owns_fit place (event ∷ log) fit (suc k) own there = owns_fit (suc place) log (λ j e at. fit (suc j) e at) k own there
+
 module _ (config : Shape) (kept : KeptLists) (range : InRange config) (starts : List ClusterNode) (first : AreFirst config kept starts) where
   fits_asked : (asked : NodeId × Input) → IsAsked config asked → (log : List (Event Happened)) (start : ClusterNode) → slice_get starts asked.0.0 ≡ Some start
       → node_meanings.fits (state_after node_meanings start (of_node asked.0.0 log)) asked.1
@@ -133,6 +141,10 @@ module _ (config : Shape) (kept : KeptLists) (range : InRange config) (starts : 
       let orderers : now.config.orderers ≡ config.orderers = ap (λ (s : Shape). s.orderers) same in
       let few = range.orderers in
       brief_row now.config now.number now.state event.happened (omega arith) (⊎_elim (λ (h : (event.node < nodes_of config) × (event.happened.input ≡ Restart)). inl h.1) (λ (h : (event.node ≡ orderer_node config 0) × (event.happened.input ≡ Lead)). inr h.1) is) next.2.row
+
+  -- and fits a frame
+  pub opening_fits : (log : List (Event Happened)) → IsLegal node_meanings starts log → map (asked_by node_meanings) log ≡ opening config → AllFit (owns_from 0 log)
+  opening_fits log legal all = owns_fit 0 log (λ k event there. brief_fits event.happened (small_event log legal all k event there))
 
   sizes_small : (log : List (Event Happened)) → ((k : ℕ) (event : Event Happened) → slice_get log k ≡ Some event → event_size event.happened ≤ 200)
       → sizes_of_events node_meanings log ≤ 200 * length log

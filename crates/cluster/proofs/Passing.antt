@@ -15,9 +15,10 @@ use Rattle.tied_cells.specs.declared.board.View.{View}
 use Rattle.tied_cells.specs.declared.mail.Fetched.{Fetched}
 use Rattle.tied_cells.specs.declared.mail.Fetched.TheVariants.{Letter as GotLetter, Empty}
 use Rattle.tied_cells.specs.Turns.{HoldsNothing}
-use Rattle.cluster.specs.Clusters.{AreFirst, IsPassOf}
+use Rattle.cluster.specs.Clusters.{AllFit, AreFirst, IsPassOf}
 use Rattle.cluster.specs.Events.{Holder, IsBusy, IsEvent, IsGiven, IsIdle, IsSamePass, IsTurn, IsTurnInput, TakesUp}
 use Rattle.cluster.specs.Submitting.{MaySubmit, SubmitsAlone}
+use Rattle.cluster.proofs.Fitting.{fit_more}
 use Rattle.cluster.proofs.Submits.{alone_more, submits_none}
 
 -- what a turn takes submits nothing
@@ -31,17 +32,18 @@ turn_none false node old new input h = takes_none h.0 input h.2
 
 module _ {A : Type 0} (config : Shape) (run : ℕ) (kept : KeptLists) (table : TableId) (number : ℕ) (old new : Seat (Stored A Happened) (View ClusterNode Happened))
     (is : IsPassOf config run kept table number old) (same_table : new.table_id ≡ old.table_id) where
-  stays_with : HoldsNothing new.me → IsSamePass old.me new.me → SubmitsAlone run number new.me.0.own → IsPassOf config run kept table number new
-  stays_with free same submits = record {
+  stays_with : HoldsNothing new.me → IsSamePass old.me new.me → SubmitsAlone run number new.me.0.own → AllFit new.me.0.own → IsPassOf config run kept table number new
+  stays_with free same submits fit = record {
     table_is = same_table ∙ is.table_is;
     first = subst (AreFirst config kept) (λ i. (sym same i).deal.starts) is.first;
     number_is = (λ i. (same i).number) ∙ is.number_is;
     free = free;
     submits = submits;
+    fit = fit;
   }
 
   pub pass_idle : HoldsNothing new.me → IsIdle old.me new.me → IsPassOf config run kept table number new
-  pass_idle free idle = stays_with free idle.same (subst (SubmitsAlone run number) (sym idle.own) is.submits)
+  pass_idle free idle = stays_with free idle.same (subst (SubmitsAlone run number) (sym idle.own) is.submits) (subst AllFit (sym idle.own) is.fit)
 
   pub pass_same : new.me ≡ old.me → IsPassOf config run kept table number new
   pass_same same = record {
@@ -50,6 +52,7 @@ module _ {A : Type 0} (config : Shape) (run : ℕ) (kept : KeptLists) (table : T
     free = subst HoldsNothing (sym same) is.free;
     number_is = (λ i. (same i).0.number) ∙ is.number_is;
     submits = subst (SubmitsAlone run number) (λ i. (sym same i).0.own) is.submits;
+    fit = subst AllFit (λ i. (sym same i).0.own) is.fit;
   }
 
   pub pass_busy : (node : ℕ) → IsBusy node old.me new.me → IsPassOf config run kept table number new
@@ -59,12 +62,14 @@ module _ {A : Type 0} (config : Shape) (run : ℕ) (kept : KeptLists) (table : T
     free = ((λ i. (busy.2 i).0.turn) ∙ is.free.0, λ i. (busy.2 i).1);
     number_is = (λ i. (busy.2 i).0.number) ∙ is.number_is;
     submits = subst (SubmitsAlone run number) (λ i. (sym busy.2 i).0.own) is.submits;
+    fit = subst AllFit (λ i. (sym busy.2 i).0.own) is.fit;
   }
 
   pub pass_event : (nodes node place lost : ℕ) (es : List (Committed Happened)) (happened : Happened) → IsEvent nodes old.me new.me node place lost es happened
       → MaySubmit run number node old.me.0.own happened.input → IsPassOf config run kept table number new
   pass_event nodes node place lost es happened event may =
       stays_with event.free event.same (subst (SubmitsAlone run number) (sym event.own) (alone_more run number place node old.me.0.own happened is.submits may))
+      (subst AllFit (sym event.own) (fit_more place node old.me.0.own happened is.fit event.fits_frame))
 
   pub pass_turn : (nodes node place lost : ℕ) (held : Holder A) (es : List (Committed Happened)) → IsTurn nodes old.me held new.me node place lost es → IsPassOf config run kept table number new
   pass_turn nodes node place lost held es turn =

@@ -1,5 +1,6 @@
 -- An event of a pass at a node, and what the calls of a cluster answer.
-use Rattle.std.specs.Prelude.{◌≡◌, ◌≢◌, ◌⊎◌, ℕ, ◌+◌, ◌≤◌, List, [], ◌∷◌, ◌++◌, Bool, true, false, length, map, slice_get, Some, None}
+use Rattle.std.specs.Prelude.{◌≡◌, ◌≢◌, ◌⊎◌, ℕ, ◌+◌, List, [], ◌∷◌, ◌++◌, Bool, true, false, map, slice_get, Some, None}
+use Rattle.answer_law.specs.Frames.{FitsFrame}
 use Rattle.atomic_table.specs.Table.{Me}
 use Rattle.core_step.specs.Known.{is_down}
 use Rattle.history_frame.specs.declared.events.Happened.{Happened}
@@ -100,7 +101,7 @@ module _ {A : Type 0} where
     pub happened : Happened
     pub commits : Commits held new node place events happened
     pub letters_are : letters ≡ map posted happened.outputs
-    pub few : length happened.outputs ≤ 255
+    pub fits_frame : FitsFrame happened
     pub start : ClusterNode
     pub starts_so : slice_get held.0.deal.starts node ≡ Some start
     pub taken : Holder A
@@ -112,17 +113,18 @@ module _ {A : Type 0} where
     pub happened : Happened
     pub commits : Commits held new node place events happened
     pub letters_are : letters ≡ map posted happened.outputs
-    pub few : length happened.outputs ≤ 255
+    pub fits_frame : FitsFrame happened
     pub input_is : happened.input ≡ input
     pub reply_is : happened.reply ≡ reply
     pub fetched : new.0.fetched ≡ held.0.fetched
 
-  -- A pass made an event: it stands at its place in a legal history, its letters went out one after another, and so many
-  -- are lost. The turn is given back.
+  -- A pass made an event: it stands at its place in a legal history and fits a frame, its letters went out one after another, and
+  -- so many are lost. The turn is given back.
   pub record IsEvent (nodes : ℕ) (old new : Holder A) (node place lost : ℕ) (events : List (Committed Happened)) (happened : Happened) : Type 0 where
     pub same : IsSamePass old new
     pub own : new.0.own ≡ old.0.own ++ own_event place node happened ∷ []
     pub placed : IsPlaced node_meanings old.0.deal.starts (record { node = node; events = events }) place happened
+    pub fits_frame : FitsFrame happened
     pub free : HoldsNothing new
     pub committed : Holder A
     pub posted_are : committed.0.posted ≡ old.0.posted

@@ -1,8 +1,10 @@
 //! The end of a cluster.
 
 ghost use Rattle.std.specs.Prelude.{◌≡◌, ◌<◌, ◌≤◌, [], ℕ, length, map, slice_get, Some, IfOk, IfErr, vec_capacity};
+ghost use Rattle.std.specs.List.{AllByRecursion};
 ghost use Rattle.core_step.specs.Standing.{cluster_node};
 ghost use Rattle.history_frame.specs.Merging.{IsComplete, IsMerged, events_from};
+ghost use Rattle.history_frame.specs.Spelling.{DisksRise, IsHistory, IsKept};
 ghost use Rattle.log_base.specs.Shape.{shape};
 ghost use Rattle.node_model.specs.Durable.{IsFounded};
 ghost use Rattle.node_model.specs.Sound.{payloads_on};
@@ -60,6 +62,7 @@ impl<J: Journal + Drop, P: Places> Cluster<J, P> {
         requires passes { (k : ℕ) (pass : _) → slice_get passes.items k ≡ Some pass → IsPassOf (shape self.config) self.run (payloads_on self.kept) self.cells.table.shared.table_id pass.account.number pass.seat }
         ensures closed { IfOk result (λ left. IsClosed (shape self.config) self.run self.kept (map (λ p. (p.seat, p.account)) passes.items) (map (cluster_node J.state) left.1.items) left.0) }
         ensures safe { IfOk result (λ left. IsFounded (shape self.config) self.run (payloads_on self.kept) → IsSafe (shape self.config) (payloads_on self.kept) left.0.events) }
+        ensures spelled { IfOk result (λ left. DisksRise 0 self.kept → AllByRecursion IsKept self.kept → IsHistory left.0) }
         ensures err { IfErr result (λ r. (r.1.cells ≡ self.cells) × (r.1.config ≡ self.config) × (r.1.run ≡ self.run) × (r.1.kept ≡ self.kept) × (r.2.items ≡ passes.items)) }
     {
         founded_histories_are_safe();

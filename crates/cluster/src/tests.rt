@@ -7,14 +7,15 @@ ghost use Rattle.log_base.specs.Shape.{shape};
 ghost use Rattle.node_model.specs.Sound.{payloads_on};
 ghost use Rattle.node_table.specs.Numbering.{nodes_of, role_at};
 ghost use Rattle.segment_journal.specs.Journalled.{loaded};
-ghost use Rattle.cluster.specs.Clusters.{IsPassOf, first_node};
+ghost use Rattle.tied_cells.specs.Rule.{deal_of};
+ghost use Rattle.cluster.specs.Clusters.{IsBegun, IsPassOf, first_node};
 ghost use Rattle.cluster.specs.Tested.{AreEmpty, AreFirstOf, trio};
 
 use crate::*;
 use core_step::Node;
 use cut_chain::WalkPlaces;
 use disk_base::MemoryDisk;
-use history_frame::Call;
+use history_frame::{Call, Input};
 use log_base::{Client, Config, NodeId, Position};
 use node_table::{Role, nodes, role_of};
 use reply_frame::Reply;
@@ -107,20 +108,30 @@ fn small() -> Result<Config, Fail>
     Ok(Config::new(1, 1, 1, 1)?)
 }
 
-// A cluster that has just begun, and the first of its two passes.
-fn begin(alloc: Global) -> Result<(Trio, Pass<OnDisk, WalkPlaces>), Fail>
+// A cluster that has just begun, and its two passes.
+fn start(alloc: Global) -> Result<(Trio, Vec<Pass<OnDisk, WalkPlaces>>), Fail>
     ensures config { IfOk result (λ made. shape made.0.config ≡ trio) }
-    ensures pass { IfOk result (λ made. IsPassOf (shape made.0.config) made.0.run (payloads_on made.0.kept) made.0.cells.table.shared.table_id made.1.account.number made.1.seat) }
+    ensures begun { IfOk result (λ made. IsBegun (shape made.0.config) made.0.run (payloads_on made.0.kept) (deal_of (cluster_node (λ j. j.journal)) made.0.cells.table.shared.key).starts) }
+    ensures count { IfOk result (λ made. length made.1.items ≡ made.0.cells.table.shared.key.passes) }
+    ensures passes { IfOk result (λ made. (k : ℕ) (pass : _) → slice_get made.1.items k ≡ Some pass
+        → IsPassOf (shape made.0.config) made.0.run (payloads_on made.0.kept) made.0.cells.table.shared.table_id k pass.seat) }
 {
     let config = small()?;
     let nodes = all_nodes(alloc, config)?;
     match Cluster::start(alloc, config, 1, Vec::new(alloc), nodes, 2) {
-        Ok((cluster, passes)) => {
-            let pass = first_of(passes)?;
-            Ok((cluster, pass))
-        }
-        Err(_) => Err("memory")?,
+        Ok(made) => return Ok(made),
+        Err(_) => return Err("memory")?,
     }
+}
+
+// The cluster with the first of them.
+fn begin(alloc: Global) -> Result<(Trio, Pass<OnDisk, WalkPlaces>), Fail>
+    ensures config { IfOk result (λ made. shape made.0.config ≡ trio) }
+    ensures pass { IfOk result (λ made. IsPassOf (shape made.0.config) made.0.run (payloads_on made.0.kept) made.0.cells.table.shared.table_id made.1.account.number made.1.seat) }
+{
+    let (cluster, passes) = start(alloc)?;
+    let pass = first_of(passes)?;
+    Ok((cluster, pass))
 }
 
 fn first_of<T: Drop>(passes: Vec<T>) -> Result<T, Fail>
@@ -154,6 +165,28 @@ fn calls_are_events_in_turn(rt: HostRuntime) -> Result<(), Fail> {
             assert_eq!(rt; end, Position(0));
         }
         _ => return Err("answer")?,
+    }
+    Ok(())
+}
+
+// The events of a cluster that is closed at once: each node starts, and the orderer is ordered to lead.
+#[test]
+fn a_cluster_is_closed(rt: HostRuntime) -> Result<(), Fail> {
+    let (cluster, passes) = start(rt.alloc())?;
+    let Ok((history, nodes)) = cluster.close(passes) else {
+        return Err("memory")?;
+    };
+    assert_eq!(rt; nodes.len(), 3);
+    let events = history.events.get();
+    assert_eq!(rt; events.len(), 4);
+    for event in events {
+        let is_last = event.place == 3;
+        let is_so = match event.happened.input {
+            Input::Restart => !is_last && event.node.0 as u32 == event.place,
+            Input::Lead => is_last && event.node == NodeId(2),
+            _ => false,
+        };
+        assert!(rt; is_so);
     }
     Ok(())
 }

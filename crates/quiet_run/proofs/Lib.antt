@@ -2,8 +2,6 @@ pub mod Fronts
 pub mod Stands
 pub mod Passing
 pub mod Answering
-pub mod RowAnswers
-pub mod NodeAnswers
 pub mod Coming
 pub mod Taken
 pub mod Rises

@@ -25,7 +25,8 @@ use Rattle.quiet_run.specs.Runs.{IsRunSoFar}
 use Rattle.quiet_run.specs.Standing.{IsJob, Job, StandAfter, node_of}
 use Rattle.quiet_run.specs.Turns.{IsAt, TakesTurn}
 use Rattle.quiet_run.proofs.Answering.{answer_is_single}
-use Rattle.quiet_run.proofs.Coming.{input_fits, legal_push, letter_within, next_answers, next_is_spelled}
+use Rattle.answer_law.proofs.Spelled.{next_answers, next_is_spelled}
+use Rattle.quiet_run.proofs.Coming.{input_fits, legal_push, letter_within}
 use Rattle.quiet_run.proofs.Stands.{stand_push, turned}
 
 -- the place of the schedule stays as a turn is given

@@ -20,7 +20,8 @@ use Rattle.schedule_model.specs.Streams.{stream_of}
 use Rattle.schedule_model.proofs.Replying.{IsNotFound, IsStream, replies-good}
 use Rattle.subscriber.specs.Following.{Following}
 use Rattle.quiet_run.specs.Spelled.{AreKept}
-use Rattle.quiet_run.proofs.Coming.{legal_push, next_answers}
+use Rattle.answer_law.proofs.Spelled.{next_answers}
+use Rattle.quiet_run.proofs.Coming.{legal_push}
 use Rattle.quiet_run.proofs.StreamSpelling.{stream_spelled}
 
 module _ (P : Reply → Type 0) where

@@ -6,8 +6,10 @@ use Rattle.log_base.specs.Shape.{shape}
 use Rattle.node_model.specs.Sound.{payloads_on}
 use Rattle.tied_cells.specs.Rule.{deal_of}
 use Rattle.tied_cells.proofs.Closes.{from_map}
+use Rattle.cluster.specs.Clusters.{AllFit}
 use Rattle.cluster.specs.Submitting.{SubmitsAlone}
-use Rattle.cluster.proofs.Closed.{closed_so, legal_so}
+use Rattle.cluster.proofs.Closed.{closed_so, legal_so, spelled_so}
+use Rattle.cluster.proofs.Fitting.{all_fit}
 use Rattle.cluster.proofs.Merged.{events_fit, is_complete, merged_so}
 use Rattle.cluster.proofs.Openings.{few_nodes}
 use Rattle.cluster.proofs.cluster.Cluster.close.Goals as goal
@@ -72,3 +74,12 @@ returns-in-Ok-close-clause-safe g c founded =
     subst (λ x. SubmitsAlone c.args.self.run x.1.number x.0.me.0.own) p.2 (c.requires.passes k p.0 p.1).submits)
     made (ap shape head.0) head.1 head.2
     (merged_so state starts c.in-Ok-close.closed.machines.items c.in-Ok-close.closed.events h.0 h.1 made.events c.history_of.ensures.events))
+
+pub returns-in-Ok-close-clause-spelled : goal.returns-in-Ok-close-clause-spelled
+returns-in-Ok-close-clause-spelled g c rise kept =
+    let closed = returns-in-Ok-close-clause-closed g c in let made = c.history_of.result in
+    spelled_so c.args.self.run c.args.self.kept made c.args.self.numbered closed.run_is closed.kept_is closed.lawful
+    (all_fit (map (λ p. (p.seat, p.account)) c.args.passes.items) (λ k pass there.
+    let p = from_map (λ p. (p.seat, p.account)) c.args.passes.items k pass there in
+    subst (λ x. AllFit x.0.me.0.own) p.2 (c.requires.passes k p.0 p.1).fit) made.events closed.events_are)
+    c.history_of.ensures.events.places rise kept

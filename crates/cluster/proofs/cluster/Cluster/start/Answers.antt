@@ -68,7 +68,7 @@ returns-in-Ok-start-clause-passes g c = λ k pass there.
     let state = cluster_node g.J.Journal.state in let n = c.args.passes in
     let deal : Deal ClusterNode = record { starts = map state c.args.nodes.items; passes = n; quota = 131072 / n } in
     passes_begin (shape c.args.config) deal c.in-Ok-start.cells.table.shared.table_id (536870912 / n) (map (λ p. (p.seat, p.account)) c.in-Ok-start.passes.items)
-    c.args.run (payloads_on c.args.kept.items) c.requires.begun.first
+    c.args.run (payloads_on c.args.kept.items) c.args.config.in_range c.requires.begun.first
     (handed_out (shape c.args.config) deal c.in-Ok-start.cells.table.shared.table_id (536870912 / n) (map (λ p. (p.seat, p.account)) c.in-Ok-start.passes.items)
     c.in-Ok.asked.items c.in-Ok.ensures c.in-Ok-start.ensures.passes)
     k (pass.seat, pass.account) (slice_get-map (λ p. (p.seat, p.account)) c.in-Ok-start.passes.items k ∙ ap (option_map (λ p. (p.seat, p.account))) there) pass.number_is

@@ -15,7 +15,7 @@ finish-lost-requires-clause-outputs g c = let t = c.in-Ok.ensures.ok in
     has_outputs c.args.pass.now.seat.me c.turn_under.new.pass.seat.me c.args.node.0 c.in-Ok.place c.args.held.cell.events.items t.happened c.turn_under.new.out.letters t.commits t.letters_are
 
 pub finish-lost-requires-clause-few : goal.finish-lost-requires-clause-few
-finish-lost-requires-clause-few g c = let t = c.in-Ok.ensures.ok in few_letters t.happened c.turn_under.new.out.letters t.letters_are t.few
+finish-lost-requires-clause-few g c = let t = c.in-Ok.ensures.ok in few_letters t.happened c.turn_under.new.out.letters t.letters_are t.fits_frame.few
 
 pub returns-in-Ok-clause-free : goal.returns-in-Ok-clause-free
 returns-in-Ok-clause-free g c = (turn_done (nodes_of (shape c.args.self.now.config)) c.args.pass.now.seat.me c.turn_under.new.pass.seat.me c.finish-lost.new.pass.seat.me c.args.node.0 c.in-Ok.place c.finish-lost.result

@@ -27,8 +27,8 @@ use Rattle.node_model.proofs.Turning.{for_some_at, turned}
 use Rattle.safety_law.specs.Fit.{Fit, IsGoodNode}
 use Rattle.safety_law.specs.Lists.{lists_at}
 use Rattle.safety_law.proofs.Step.{of_role}
-use Rattle.quiet_run.proofs.Answering.{OfAnswer, turn_answers}
-use Rattle.quiet_run.proofs.RowAnswers.{gatherer_row_answers, orderer_row_answers, storage_row_answers}
+use Rattle.answer_law.proofs.Answering.{OfAnswer, turn_answers}
+use Rattle.answer_law.proofs.RowAnswers.{gatherer_row_answers, orderer_row_answers, storage_row_answers}
 
 storage_turned : (config : Shape) (member : Member) (node : StorageNode) (input : Input) (mark : Mark) (made : StorageOutcome)
     → storage_outcome config member node input mark ≡ Some made → Turned (storage_role config member) node input mark made

@@ -35,7 +35,7 @@ use Rattle.node_model.specs.OrdererRow.{accept_answer, accepted_for, accepted_to
 use Rattle.node_model.specs.StorageNode.{Put, Replica}
 use Rattle.node_model.specs.StorageRow.{ask_reply, call_row, copied_as, message_row, on_ask, on_copied, on_copy, on_decide, on_read, on_submit, on_tick, read_reply, row, submit_reply}
 use Rattle.node_model.proofs.Turning.{ForSome}
-use Rattle.quiet_run.proofs.Answering.{OfAnswer}
+use Rattle.answer_law.proofs.Answering.{OfAnswer}
 
 submitted_answer : (a : Submitted) → IsNodeAnswer (submit_reply a)
 submitted_answer (Stored offset) = tt

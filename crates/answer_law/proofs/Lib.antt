@@ -1,0 +1,4 @@
+pub mod Answering
+pub mod NodeAnswers
+pub mod RowAnswers
+pub mod Spelled
