@@ -43,17 +43,17 @@ module _ (count : ℕ) (old between new : List Medium) (all : length old ≡ cou
 -- ---- a node among others
 
 module _ {A : Type 0} (told : A → List Medium) (nodes : List A) (n : ℕ) (d : A) (within : n < length nodes) where
-  here_before : media_at (map told nodes) n ≡ told (get_or nodes n d)
+  pub here_before : media_at (map told nodes) n ≡ told (get_or nodes n d)
   here_before = get_or-map told nodes n d [] within
 
   module _ (new : A) where
     turned_is : map told (set nodes n new) ≡ set (map told nodes) n (told new)
     turned_is = map-set told nodes n new
 
-    here_after : media_at (map told (set nodes n new)) n ≡ told new
+    pub here_after : media_at (map told (set nodes n new)) n ≡ told new
     here_after = ap (λ (l : List (List Medium)). media_at l n) turned_is ∙ get_or-set_same (map told nodes) n (told new) [] (omega (arith, within, length-map nodes told))
 
-    elsewhere : (other : ℕ) → other ≢ n → media_at (map told (set nodes n new)) other ≡ media_at (map told nodes) other
+    pub elsewhere : (other : ℕ) → other ≢ n → media_at (map told (set nodes n new)) other ≡ media_at (map told nodes) other
     elsewhere other apart = ap (λ (l : List (List Medium)). media_at l other) turned_is ∙ get_or-set_other (map told nodes) n other (told new) [] apart
 
     pub turn_counts : CountsOn (told (get_or nodes n d)) (told new) → AllCountOn (map told nodes) (map told (set nodes n new))

@@ -9,7 +9,7 @@ use Rattle.history_frame.specs.Spelling.{event_size}
 use Rattle.node_model.specs.Machine.{ClusterNode}
 use Rattle.schedule_model.specs.declared.turns.Turn.{Turn}
 use Rattle.schedule_model.specs.Driven.{next_turn_after}
-use Rattle.schedule_model.specs.Scheduling.{Scheduled, Step, given, next_step, next_turn, noted, ready, rest_in, turn_in}
+use Rattle.schedule_model.specs.Scheduling.{Scheduled, Step, given, handed, next_step, next_turn, noted, ready, rest_in, turn_in}
 use Rattle.schedule_model.proofs.RunLaws.{event_more}
 use Rattle.quiet_run.specs.declared.outcomes.DriveStop.TheVariants.{Limit, Memory}
 use Rattle.quiet_run.specs.declared.running.Running.{Running}
@@ -34,6 +34,10 @@ module _ {A E : Type 0} where
   pub on_ok_more : (result : Result A E) (P Q : Type 0) → (P → Q) → OnOk result P → OnOk result Q
   on_ok_more (Ok x) P Q f h = f h
   on_ok_more (Err e) P Q f h = tt
+
+  pub if_err_more : (result : Result A E) (P Q : E → Type 0) → ((e : E) → P e → Q e) → IfErr result P → IfErr result Q
+  if_err_more (Ok x) P Q f h = tt
+  if_err_more (Err e) P Q f h = f e h
 
   pub if_err_with : (result : Result A E) (P Q : E → Type 0) → ((e : E) → P e → Q e) → IsErrAnd result P → IfErr result Q
   if_err_with (Ok x) P Q f h = tt
@@ -134,10 +138,10 @@ module _ (running : Running) (nodes : List ClusterNode) (way : IsOnItsWay (job_o
 
 -- ---- where no turn comes
 
-given_at_end : (s : Scheduled) → next_turn s ≡ None → given s ≡ ready s
+given_at_end : (s : Scheduled) → next_turn s ≡ None → given s ≡ handed (ready s)
 given_at_end s h = at (next_step s) h
   where
-    at : (o : Option Step) → turn_in o ≡ None → rest_in (ready s) o ≡ ready s
+    at : (o : Option Step) → turn_in o ≡ None → handed (rest_in (ready s) o) ≡ handed (ready s)
     at None e = refl
     at (Some step) e = absurd (cc)
 
@@ -169,5 +173,5 @@ module _ (job : Job) (events : List Event) (bytes : ℕ) (nodes : List ClusterNo
     way = way;
     over = coming ∙ last;
     none = none;
-    replies_are = ap (λ (s : Scheduled). s.replies) (g ∙ given_at_end scheduled (sym next_is ∙ last) ∙ ap ready is);
+    replies_are = ap (λ (s : Scheduled). s.replies) (g ∙ given_at_end scheduled (sym next_is ∙ last)) ∙ ap (λ (s : Scheduled). (ready s).replies) is;
   }

@@ -7,6 +7,7 @@ pub mod Taken
 pub mod Rises
 pub mod Failures
 pub mod Causing
+pub mod Planned
 pub mod Next
 pub mod Going
 pub mod Mosts

@@ -1,5 +1,5 @@
 -- The next turn of a run: it can be taken, and what happened then is the next event of the run.
-use Rattle.std.proofs.Common.{◌≡◌, ◌<◌, List, [], ◌∷◌, ◌++◌, length, Some, refl, sym, ap, subst, arith, ◌∙◌}
+use Rattle.std.proofs.Common.{◌≡◌, ◌<◌, ℕ, List, [], ◌∷◌, ◌++◌, length, slice_get, Option, Some, None, refl, sym, ap, subst, arith, ◌∙◌}
 use Rattle.std.proofs.Math.ListN.{set}
 use Rattle.std.proofs.lemmas.Option.{same_Some}
 use Rattle.history_frame.specs.declared.events.Event.{Event}
@@ -12,12 +12,13 @@ use Rattle.node_model.specs.Legal.{IsNext, submitted}
 use Rattle.node_model.specs.Machine.{ClusterNode, node_meanings}
 use Rattle.node_model.specs.NodeState.{node_after}
 use Rattle.node_table.specs.Numbering.{nodes_of, role_at}
+use Rattle.schedule_model.specs.declared.duties.Afterwards.{Afterwards}
 use Rattle.schedule_model.specs.declared.duties.Duty.{Duty}
-use Rattle.schedule_model.specs.declared.duties.Duty.TheVariants.{Give, DeliverAll, MakeCall}
+use Rattle.schedule_model.specs.declared.duties.Duty.TheVariants.{Give, DeliverAll, DeliverOne, MakeCall}
 use Rattle.schedule_model.specs.declared.turns.Turn.{Turn}
 use Rattle.schedule_model.specs.Driven.{IsFollowed, next_turn_after, scheduled_after, turn_of}
 use Rattle.schedule_model.specs.Streams.{IsSingle}
-use Rattle.schedule_model.specs.Scheduling.{Scheduled, Waiting, at_first, delivery, first_step, given, ready, rest_in}
+use Rattle.schedule_model.specs.Scheduling.{Scheduled, Waiting, at_first, delivery, delivery_of, first_step, given, ready, rest_in}
 use Rattle.schedule_model.proofs.Kept.{each-append}
 use Rattle.schedule_model.proofs.Posted.{events-posted, first-posted-is, ready-posted}
 use Rattle.schedule_model.proofs.RunLaws.{event_agrees, followed_more, turn_allowed, turn_delivered, turn_of_run}
@@ -34,10 +35,16 @@ delivery-place : (s : Scheduled) (queue : List Waiting) → (rest_in s (delivery
 delivery-place s [] = refl
 delivery-place s (letter ∷ queue) = refl
 
+picked-place : (s : Scheduled) (duties : List Duty) (number : ℕ) (afterwards : Afterwards) (letter : Option Waiting)
+    → (rest_in s (delivery_of s duties number afterwards letter)).place ≡ s.place
+picked-place s duties number afterwards None = refl
+picked-place s duties number afterwards (Some letter) = refl
+
 first-place : (s : Scheduled) (duties : List Duty) → (rest_in s (first_step s duties)).place ≡ s.place
 first-place s [] = refl
 first-place s (Give signal first count ∷ duties) = refl
 first-place s (DeliverAll ∷ duties) = delivery-place s s.queue
+first-place s (DeliverOne letter afterwards ∷ duties) = picked-place s duties letter afterwards (slice_get s.queue letter)
 first-place s (MakeCall node call awaited ∷ duties) = refl
 
 module _ (job : Job) (events : List Event) where

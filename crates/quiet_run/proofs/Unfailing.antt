@@ -3,7 +3,7 @@ use Rattle.std.proofs.Common.{◌≡◌, ◌<◌, ℕ, Bool, true, false, List, 
 use Rattle.std.specs.List.{AllByRecursion}
 use Rattle.std.specs.Prelude.{IfOk, Result, Ok, Err}
 use Rattle.command_frame.specs.declared.items.Item.{Item}
-use Rattle.command_frame.specs.Items.{IsItem}
+use Rattle.command_frame.specs.Items.{IsItem, IsNoFault}
 use Rattle.command_frame.specs.Streams.{unplaced}
 use Rattle.history_frame.specs.declared.events.Event.{Event}
 use Rattle.history_frame.specs.declared.events.Kept.{Kept}
@@ -38,10 +38,11 @@ none_shown config events none k event at below = by (shows_failure true event.ha
     by true e = absurd (let some = failures_some true event.node.0 events k event at refl e in let zero_of = none event.node.0 below in omega (arith, some, zero_of))
     by false e = e
 
-module _ (config : Shape) (run : ℕ) (items : List Item) (each : AllByRecursion (IsItem config) items) (events : List Event) (driven : IsDriven config run items events) (none : ShowsNone config events) where
+module _ (config : Shape) (run : ℕ) (items : List Item) (each : AllByRecursion (IsItem config) items) (no_faults : AllByRecursion IsNoFault items) (events : List Event) (driven : IsDriven config run items events) (none : ShowsNone config events) where
   is_quiet : IsLegal config run (payloads_on []) events → IsQuietRun config run items events
   is_quiet legal = record {
     each = each;
+    no_faults = no_faults;
     legal = legal;
     driven = driven;
     quiet = all_quiet config run (payloads_on []) events legal.follow (none_shown config events none);
@@ -72,10 +73,10 @@ module _ (config : Config) (run : ℕ) (items : List Item) (each : AllByRecursio
     pub replies : map unplaced driven.replies ≡ replies_of (shape config) run items driven.history.events
     pub within : IsWithinLimits (job (shape config) run items kept) driven.history.events
 
-  quiet_done : (driven : Driven) → IsDone driven → kept ≡ [] → ShowsNone (shape config) driven.history.events → map unplaced driven.replies ≡ log_of (shape config) run items
-  quiet_done driven h empty none =
+  quiet_done : (driven : Driven) → IsDone driven → kept ≡ [] → AllByRecursion IsNoFault items → ShowsNone (shape config) driven.history.events → map unplaced driven.replies ≡ log_of (shape config) run items
+  quiet_done driven h empty no_faults none =
       let legal = subst (λ (x : Shape × ℕ × List Kept). IsLegal x.0 x.1 (payloads_on x.2) driven.history.events) (λ i. (shape (h.given.0 i), h.given.1 i, h.given.2 i)) h.lawful in
-      h.replies ∙ quiet_replies (shape config) run items each driven.history.events h.by_items none kept empty legal h.within
+      h.replies ∙ quiet_replies (shape config) run items each no_faults driven.history.events h.by_items none kept empty legal h.within
 
   module _ (result : Result Driven DriveStop)
       (given : IfOk result (λ driven. (driven.history.config ≡ config) × (driven.history.run ≡ run) × (driven.history.kept ≡ kept)))
@@ -97,19 +98,19 @@ module _ (config : Config) (run : ℕ) (items : List Item) (each : AllByRecursio
         by (Ok driven) given lawful by_items replies within =
             record { given = given; lawful = lawful; by_items = by_items; replies = replies; within = within }
 
-    pub quiet_result : IfOk result (λ driven. kept ≡ [] → ShowsNone (shape config) driven.history.events → map unplaced driven.replies ≡ log_of (shape config) run items)
+    pub quiet_result : IfOk result (λ driven. kept ≡ [] → AllByRecursion IsNoFault items → ShowsNone (shape config) driven.history.events → map unplaced driven.replies ≡ log_of (shape config) run items)
     quiet_result = by result done_all
       where
         by : (result : Result Driven DriveStop) → IfOk result IsDone
-            → IfOk result (λ driven. kept ≡ [] → ShowsNone (shape config) driven.history.events → map unplaced driven.replies ≡ log_of (shape config) run items)
+            → IfOk result (λ driven. kept ≡ [] → AllByRecursion IsNoFault items → ShowsNone (shape config) driven.history.events → map unplaced driven.replies ≡ log_of (shape config) run items)
         by (Err stop) done = tt
         by (Ok driven) done = quiet_done driven done
 
     pub unfailing_result : (old new : List (List Medium)) → IfOk result (λ driven. HaveCauses (shape config) driven.history.events old new)
-        → IfOk result (λ driven. kept ≡ [] → AreUnfailing (shape config) old new → map unplaced driven.replies ≡ log_of (shape config) run items)
+        → IfOk result (λ driven. kept ≡ [] → AllByRecursion IsNoFault items → AreUnfailing (shape config) old new → map unplaced driven.replies ≡ log_of (shape config) run items)
     unfailing_result old new causes = by result done_all causes
       where
         by : (result : Result Driven DriveStop) → IfOk result IsDone → IfOk result (λ driven. HaveCauses (shape config) driven.history.events old new)
-            → IfOk result (λ driven. kept ≡ [] → AreUnfailing (shape config) old new → map unplaced driven.replies ≡ log_of (shape config) run items)
+            → IfOk result (λ driven. kept ≡ [] → AllByRecursion IsNoFault items → AreUnfailing (shape config) old new → map unplaced driven.replies ≡ log_of (shape config) run items)
         by (Err stop) done causes = tt
-        by (Ok driven) done causes = λ empty h. quiet_done driven done empty (unfailing_shows_none (shape config) driven.history.events old new causes h)
+        by (Ok driven) done causes = λ empty no_faults h. quiet_done driven done empty no_faults (unfailing_shows_none (shape config) driven.history.events old new causes h)

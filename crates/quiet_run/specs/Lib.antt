@@ -1,6 +1,7 @@
 pub mod Standing
 pub mod Spelled
 pub mod Causes
+pub mod Planning
 pub mod Turns
 pub mod Limits
 pub mod Runs

@@ -9,12 +9,12 @@ mod keeping;
 mod knowing;
 mod limits;
 mod outcomes;
+mod planning;
 mod running;
 mod serving;
 mod taking;
 mod turning;
 
-pub use limits::is_one_full;
 pub use outcomes::{DriveStop, Driven};
 pub use serving::drive;
 

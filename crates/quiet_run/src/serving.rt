@@ -2,7 +2,7 @@
 
 ghost use Rattle.std.specs.Prelude.{◌≡◌, ◌<◌, ◌≤◌, [], length, map, OnOk, IfOk, IfErr};
 ghost use Rattle.std.specs.List.{AllByRecursion};
-ghost use Rattle.command_frame.specs.Items.{IsItem};
+ghost use Rattle.command_frame.specs.Items.{IsItem, IsNoFault};
 ghost use Rattle.core_step.specs.Standing.{cluster_node};
 ghost use Rattle.history_frame.specs.Spelling.{IsHistory};
 ghost use Rattle.log_base.specs.Shape.{shape};
@@ -25,7 +25,7 @@ use crate::running::{Running, begin};
 use command_frame::{Item, Reply};
 use core_step::Node;
 use cut_chain::Places;
-use history_frame::{History, Kept};
+use history_frame::{Event, History, Kept};
 use log_base::{Config, List};
 use segment_journal::Journal;
 use std::alloc::Global;
@@ -68,9 +68,9 @@ pub fn drive<J: Journal + Drop, P: Places>(
     ensures counts { AllCountOn (map (node_media J.state J.faults J.keeps_synced J.turns) nodes.old.items) (map (node_media J.state J.faults J.keeps_synced J.turns) nodes.new.items) }
     ensures stopped_causes { IfErr result (λ stop. IsStoppedWith (job (shape config) run items.now kept.items) (map (cluster_node J.state) nodes.new.items)
         (map (node_media J.state J.faults J.keeps_synced J.turns) nodes.old.items) (map (node_media J.state J.faults J.keeps_synced J.turns) nodes.new.items) stop) }
-    ensures quiet { IfOk result (λ driven. kept.items ≡ [] → ShowsNone (shape config) driven.history.events
+    ensures quiet { IfOk result (λ driven. kept.items ≡ [] → AllByRecursion IsNoFault items.now → ShowsNone (shape config) driven.history.events
         → map unplaced driven.replies ≡ log_of (shape config) run items.now) }
-    ensures unfailing { IfOk result (λ driven. kept.items ≡ []
+    ensures unfailing { IfOk result (λ driven. kept.items ≡ [] → AllByRecursion IsNoFault items.now
         → AreUnfailing (shape config) (map (node_media J.state J.faults J.keeps_synced J.turns) nodes.old.items) (map (node_media J.state J.faults J.keeps_synced J.turns) nodes.new.items)
         → map unplaced driven.replies ≡ log_of (shape config) run items.now) }
 {
@@ -115,6 +115,21 @@ fn serve<J: Journal + Drop, P: Places>(
 {
     let mut running = begin(alloc, config, run, items, &kept)?;
     run_to_end(&mut running, nodes)?;
+    let (replies, events) = take_apart(running);
+    let history = History {
+        config,
+        run,
+        kept: List::of(kept),
+        events: List::of(events),
+    };
+    Ok(finish(history, replies, nodes))
+}
+
+/// The replies and the events of a run.
+fn take_apart(running: Running) -> (Vec<Reply>, Vec<Event>)
+    ensures replies { map unplaced result.0.items ≡ running.entry.schedule.replies }
+    ensures events { result.1 ≡ running.entry.events }
+{
     let Running {
         alloc: _,
         config: _,
@@ -125,14 +140,7 @@ fn serve<J: Journal + Drop, P: Places>(
         events,
         bytes: _,
     } = running;
-    let replies = schedule.into_replies();
-    let history = History {
-        config,
-        run,
-        kept: List::of(kept),
-        events: List::of(events),
-    };
-    Ok(finish(history, replies, nodes))
+    (schedule.into_replies(), events)
 }
 
 /// Goes on until no turn comes.

@@ -80,7 +80,7 @@ returns-clause-lawful g c =
     let is : job_of c.run_to_end.new.running ≡ a_job = c.in_ok-run_to_end.ensures.same ∙ begins.job_is in
     let events = c.run_to_end.new.running.events.items in
     let over = subst (λ (j : Job). IsOver j c.run_to_end.new.running.events.items c.run_to_end.new.running.bytes c.run_to_end.new.running.schedule.replies new) is c.in_ok-run_to_end.ensures.over in
-    let events_are : c.finish.result.history.events ≡ c.run_to_end.new.running.events.items = ap (λ (h : History). h.events) c.finish.ensures.history ∙ c.of-2.ensures in
+    let events_are : c.finish.result.history.events ≡ c.run_to_end.new.running.events.items = ap (λ (h : History). h.events) c.finish.ensures.history ∙ c.of-2.ensures ∙ (λ i. (c.take_apart-replies.ensures.events i).items) in
     let config_is : c.finish.result.history.config ≡ c.args.config = ap (λ (h : History). h.config) c.finish.ensures.history in
     let run_is : c.finish.result.history.run ≡ c.args.run = ap (λ (h : History). h.run) c.finish.ensures.history in
     let kept_are : c.finish.result.history.kept ≡ c.args.kept.items = ap (λ (h : History). h.kept) c.finish.ensures.history ∙ c.of.ensures in
@@ -94,7 +94,7 @@ returns-clause-driven g c =
     let is : job_of c.run_to_end.new.running ≡ a_job = c.in_ok-run_to_end.ensures.same ∙ begins.job_is in
     let events = c.run_to_end.new.running.events.items in
     let over = subst (λ (j : Job). IsOver j c.run_to_end.new.running.events.items c.run_to_end.new.running.bytes c.run_to_end.new.running.schedule.replies new) is c.in_ok-run_to_end.ensures.over in
-    let events_are : c.finish.result.history.events ≡ c.run_to_end.new.running.events.items = ap (λ (h : History). h.events) c.finish.ensures.history ∙ c.of-2.ensures in
+    let events_are : c.finish.result.history.events ≡ c.run_to_end.new.running.events.items = ap (λ (h : History). h.events) c.finish.ensures.history ∙ c.of-2.ensures ∙ (λ i. (c.take_apart-replies.ensures.events i).items) in
     subst (λ (es : List Event). IsDriven (shape c.args.config) c.args.run c.args.items.now es) (sym events_are) (record { followed = over.way.so_far.followed; over = over.over })
 
 pub returns-clause-replies : goal.returns-clause-replies
@@ -105,9 +105,9 @@ returns-clause-replies g c =
     let is : job_of c.run_to_end.new.running ≡ a_job = c.in_ok-run_to_end.ensures.same ∙ begins.job_is in
     let events = c.run_to_end.new.running.events.items in
     let over = subst (λ (j : Job). IsOver j c.run_to_end.new.running.events.items c.run_to_end.new.running.bytes c.run_to_end.new.running.schedule.replies new) is c.in_ok-run_to_end.ensures.over in
-    let events_are : c.finish.result.history.events ≡ c.run_to_end.new.running.events.items = ap (λ (h : History). h.events) c.finish.ensures.history ∙ c.of-2.ensures in
+    let events_are : c.finish.result.history.events ≡ c.run_to_end.new.running.events.items = ap (λ (h : History). h.events) c.finish.ensures.history ∙ c.of-2.ensures ∙ (λ i. (c.take_apart-replies.ensures.events i).items) in
     let replies_are : map unplaced c.finish.result.replies ≡ replies_of (shape c.args.config) c.args.run c.args.items.now events =
-    ap (map unplaced) c.finish.ensures.replies ∙ c.into_replies-replies.ensures ∙ over.replies_are in
+    ap (map unplaced) c.finish.ensures.replies ∙ c.take_apart-replies.ensures.replies ∙ over.replies_are in
     replies_are ∙ ap (λ (es : List Event). replies_of (shape c.args.config) c.args.run c.args.items.now es) (sym events_are)
 
 pub returns-clause-each : goal.returns-clause-each
@@ -119,7 +119,7 @@ returns-clause-each g c =
     let events = c.run_to_end.new.running.events.items in
     let over = subst (λ (j : Job). IsOver j c.run_to_end.new.running.events.items c.run_to_end.new.running.bytes c.run_to_end.new.running.schedule.replies new) is c.in_ok-run_to_end.ensures.over in
     let replies_are : map unplaced c.finish.result.replies ≡ replies_of (shape c.args.config) c.args.run c.args.items.now events =
-    ap (map unplaced) c.finish.ensures.replies ∙ c.into_replies-replies.ensures ∙ over.replies_are in
+    ap (map unplaced) c.finish.ensures.replies ∙ c.take_apart-replies.ensures.replies ∙ over.replies_are in
     sym (length-map c.finish.result.replies unplaced) ∙ ap (λ (l : List Reply). length l) replies_are ∙ replies_all (shape c.args.config) c.args.run c.args.items.now events over.over
 
 pub returns-clause-nodes : goal.returns-clause-nodes
@@ -130,7 +130,7 @@ returns-clause-nodes g c =
     let is : job_of c.run_to_end.new.running ≡ a_job = c.in_ok-run_to_end.ensures.same ∙ begins.job_is in
     let events = c.run_to_end.new.running.events.items in
     let over = subst (λ (j : Job). IsOver j c.run_to_end.new.running.events.items c.run_to_end.new.running.bytes c.run_to_end.new.running.schedule.replies new) is c.in_ok-run_to_end.ensures.over in
-    let events_are : c.finish.result.history.events ≡ c.run_to_end.new.running.events.items = ap (λ (h : History). h.events) c.finish.ensures.history ∙ c.of-2.ensures in
+    let events_are : c.finish.result.history.events ≡ c.run_to_end.new.running.events.items = ap (λ (h : History). h.events) c.finish.ensures.history ∙ c.of-2.ensures ∙ (λ i. (c.take_apart-replies.ensures.events i).items) in
     subst (λ (es : List Event). StandAfter a_job es new) (sym events_are) over.way.so_far.stand
 
 pub returns-clause-limits : goal.returns-clause-limits
@@ -141,7 +141,7 @@ returns-clause-limits g c =
     let is : job_of c.run_to_end.new.running ≡ a_job = c.in_ok-run_to_end.ensures.same ∙ begins.job_is in
     let events = c.run_to_end.new.running.events.items in
     let over = subst (λ (j : Job). IsOver j c.run_to_end.new.running.events.items c.run_to_end.new.running.bytes c.run_to_end.new.running.schedule.replies new) is c.in_ok-run_to_end.ensures.over in
-    let events_are : c.finish.result.history.events ≡ c.run_to_end.new.running.events.items = ap (λ (h : History). h.events) c.finish.ensures.history ∙ c.of-2.ensures in
+    let events_are : c.finish.result.history.events ≡ c.run_to_end.new.running.events.items = ap (λ (h : History). h.events) c.finish.ensures.history ∙ c.of-2.ensures ∙ (λ i. (c.take_apart-replies.ensures.events i).items) in
     subst (λ (es : List Event). IsWithinLimits a_job es) (sym events_are) (within_limits a_job events over.way.no_limit over.none)
 
 pub returns-clause-known : goal.returns-clause-known
@@ -152,7 +152,7 @@ returns-clause-known g c =
     let is : job_of c.run_to_end.new.running ≡ a_job = c.in_ok-run_to_end.ensures.same ∙ begins.job_is in
     let events = c.run_to_end.new.running.events.items in
     let over = subst (λ (j : Job). IsOver j c.run_to_end.new.running.events.items c.run_to_end.new.running.bytes c.run_to_end.new.running.schedule.replies new) is c.in_ok-run_to_end.ensures.over in
-    let events_are : c.finish.result.history.events ≡ c.run_to_end.new.running.events.items = ap (λ (h : History). h.events) c.finish.ensures.history ∙ c.of-2.ensures in
+    let events_are : c.finish.result.history.events ≡ c.run_to_end.new.running.events.items = ap (λ (h : History). h.events) c.finish.ensures.history ∙ c.of-2.ensures ∙ (λ i. (c.take_apart-replies.ensures.events i).items) in
     subst (λ (es : List Event). IsKnownAtMost a_job es c.finish.result.known c.finish.result.end.0 c.finish.result.trim.0) (sym events_are)
     (most_is_known a_job events new c.finish.result.known c.finish.result.end.0 c.finish.result.trim.0 over.way.so_far.stand c.finish.ensures.known)
 
@@ -202,7 +202,7 @@ returns-clause-spelled g c =
     let new = map (cluster_node {P = g.row.P.Denot} g.J.Journal.state) c.run_to_end.new.nodes in
     let is : job_of c.run_to_end.new.running ≡ a_job = c.in_ok-run_to_end.ensures.same ∙ begins.job_is in
     let over = subst (λ (j : Job). IsOver j c.run_to_end.new.running.events.items c.run_to_end.new.running.bytes c.run_to_end.new.running.schedule.replies new) is c.in_ok-run_to_end.ensures.over in
-    let events_are : c.finish.result.history.events ≡ c.run_to_end.new.running.events.items = ap (λ (h : History). h.events) c.finish.ensures.history ∙ c.of-2.ensures in
+    let events_are : c.finish.result.history.events ≡ c.run_to_end.new.running.events.items = ap (λ (h : History). h.events) c.finish.ensures.history ∙ c.of-2.ensures ∙ (λ i. (c.take_apart-replies.ensures.events i).items) in
     let run_is : c.finish.result.history.run ≡ c.args.run = ap (λ (h : History). h.run) c.finish.ensures.history in
     history_is_spelled c.finish.result.history (subst (λ (n : ℕ). 1 ≤ n) (sym run_is) c.requires.run.0) (subst (λ (n : ℕ). n ≤ 1000000) (sym run_is) c.requires.run.1)
     (returns-clause-lawful g c) (subst (λ (es : List Event). AllByRecursion IsEvent es) (sym events_are) over.way.so_far.spelled)
@@ -215,7 +215,7 @@ returns-clause-replies_spelled g c =
     let is : job_of c.run_to_end.new.running ≡ a_job = c.in_ok-run_to_end.ensures.same ∙ begins.job_is in
     let over = subst (λ (j : Job). IsOver j c.run_to_end.new.running.events.items c.run_to_end.new.running.bytes c.run_to_end.new.running.schedule.replies new) is c.in_ok-run_to_end.ensures.over in
     all_placed_spelled c.finish.result.replies
-    (subst (λ (rs : List Reply). AllByRecursion HasSpelling rs) (sym (ap (map unplaced) c.finish.ensures.replies ∙ c.into_replies-replies.ensures ∙ over.replies_are))
+    (subst (λ (rs : List Reply). AllByRecursion HasSpelling rs) (sym (ap (map unplaced) c.finish.ensures.replies ∙ c.take_apart-replies.ensures.replies ∙ over.replies_are))
     (all_replies_spelled (shape c.args.config) c.args.run a_job.kept c.args.items.now c.run_to_end.new.running.events.items over.way.so_far.legal c.requires.items
     over.way.so_far.spelled))
 
@@ -226,7 +226,7 @@ returns-clause-starts g c =
     let new = map (cluster_node {P = g.row.P.Denot} g.J.Journal.state) c.run_to_end.new.nodes in
     let is : job_of c.run_to_end.new.running ≡ a_job = c.in_ok-run_to_end.ensures.same ∙ begins.job_is in
     let over = subst (λ (j : Job). IsOver j c.run_to_end.new.running.events.items c.run_to_end.new.running.bytes c.run_to_end.new.running.schedule.replies new) is c.in_ok-run_to_end.ensures.over in
-    let events_are : c.finish.result.history.events ≡ c.run_to_end.new.running.events.items = ap (λ (h : History). h.events) c.finish.ensures.history ∙ c.of-2.ensures in
+    let events_are : c.finish.result.history.events ≡ c.run_to_end.new.running.events.items = ap (λ (h : History). h.events) c.finish.ensures.history ∙ c.of-2.ensures ∙ (λ i. (c.take_apart-replies.ensures.events i).items) in
     subst (λ (es : List Event). BeginWithStarts (shape c.args.config) es) (sym events_are)
     (begin_with_starts a_job c.run_to_end.new.running.events.items over.way.so_far.legal over.way.so_far.followed
     (all_started a_job.config a_job.run a_job.items c.run_to_end.new.running.events.items over.way.so_far.followed over.over))
@@ -238,7 +238,7 @@ returns-clause-opened g c =
     let new = map (cluster_node {P = g.row.P.Denot} g.J.Journal.state) c.run_to_end.new.nodes in
     let is : job_of c.run_to_end.new.running ≡ a_job = c.in_ok-run_to_end.ensures.same ∙ begins.job_is in
     let over = subst (λ (j : Job). IsOver j c.run_to_end.new.running.events.items c.run_to_end.new.running.bytes c.run_to_end.new.running.schedule.replies new) is c.in_ok-run_to_end.ensures.over in
-    let events_are : c.finish.result.history.events ≡ c.run_to_end.new.running.events.items = ap (λ (h : History). h.events) c.finish.ensures.history ∙ c.of-2.ensures in
+    let events_are : c.finish.result.history.events ≡ c.run_to_end.new.running.events.items = ap (λ (h : History). h.events) c.finish.ensures.history ∙ c.of-2.ensures ∙ (λ i. (c.take_apart-replies.ensures.events i).items) in
     let media = node_media {P = g.row.P.Denot} g.J.Journal.state g.J.Journal.faults g.J.Journal.keeps_synced g.J.Journal.turns in
     let causes = causes_from_first a_job c.in_ok-running.running begins (map media c.args.nodes.now) (map media c.run_to_end.new.nodes) c.run_to_end.new.running.events.items
     c.in_ok-run_to_end.ensures.causes in
@@ -249,7 +249,7 @@ pub returns-clause-causes : goal.returns-clause-causes
 returns-clause-causes g c =
     let a_job = job (shape c.args.config) c.args.run c.args.items.now c.args.kept.items in
     let begins = subst (λ (k : List Kept). IsBeginning (job (shape c.args.config) c.args.run c.args.items.now k) c.in_ok-running.running) c.deref.ensures.value c.in_ok-running.ensures in
-    let events_are : c.finish.result.history.events ≡ c.run_to_end.new.running.events.items = ap (λ (h : History). h.events) c.finish.ensures.history ∙ c.of-2.ensures in
+    let events_are : c.finish.result.history.events ≡ c.run_to_end.new.running.events.items = ap (λ (h : History). h.events) c.finish.ensures.history ∙ c.of-2.ensures ∙ (λ i. (c.take_apart-replies.ensures.events i).items) in
     let media = node_media {P = g.row.P.Denot} g.J.Journal.state g.J.Journal.faults g.J.Journal.keeps_synced g.J.Journal.turns in
     let causes = causes_from_first a_job c.in_ok-running.running begins (map media c.args.nodes.now) (map media c.run_to_end.new.nodes) c.run_to_end.new.running.events.items
     c.in_ok-run_to_end.ensures.causes in
