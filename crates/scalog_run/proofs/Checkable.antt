@@ -7,7 +7,7 @@ use Rattle.std.proofs.lemmas.Bool.Decides.{nat_tests}
 use Rattle.std.proofs.lemmas.Grind.{common_steps}
 use Rattle.std.proofs.lemmas.List.{take_all}
 use Rattle.command_frame.specs.declared.items.Item.{Item}
-use Rattle.command_frame.specs.declared.items.Item.TheVariants.{Append, Read, Subscribe, Trim, Add, Finalise, Ask}
+use Rattle.command_frame.specs.declared.items.Item.TheVariants.{Append, Read, Subscribe, Trim, Add, Finalise, Ask, Fault}
 use Rattle.command_frame.specs.Items.{IsItem}
 use Rattle.reply_frame.specs.declared.replies.Reply.{Reply}
 use Rattle.reply_frame.specs.Replies.{HasSpelling, IsNodeAnswer, reply_bytes, reply_spelling}
@@ -65,6 +65,7 @@ lane_fits config (Trim lane position) is = let lane_is = is.0 in omega arith
 lane_fits config (Add lane shard) is = let lane_is = is.0 in omega arith
 lane_fits config (Finalise lane shard) is = let lane_is = is.0 in omega arith
 lane_fits config (Ask lane) is = omega arith
+lane_fits config (Fault lane line) is = let lane_is = is.0 in omega arith
 
 reply_spelled : (lane : ℕ) (reply : Reply) → lane < 256 → HasSpelling reply → ReplyFits reply → Spells Before 0 AReply (reply_spelling lane reply)
 reply_spelled lane reply few is fits = record {

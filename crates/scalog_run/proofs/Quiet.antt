@@ -5,7 +5,7 @@ use Rattle.std.specs.List.{AllByRecursion, flat_map}
 use Rattle.std.specs.Prelude.{IfSome, IsSomeAnd, slice_get}
 use Rattle.std.specs.Io.KnownBytes.{Appends}
 use Rattle.command_frame.specs.declared.items.Item.{Item}
-use Rattle.command_frame.specs.Items.{item_spelling}
+use Rattle.command_frame.specs.Items.{IsNoFault, item_spelling}
 use Rattle.command_frame.proofs.FrameLaws.{one_item}
 use Rattle.history_frame.specs.declared.events.History.{History}
 use Rattle.history_frame.specs.declared.events.Kept.{Kept}
@@ -128,7 +128,8 @@ module _ {D : Type 0} (old new : ℕ → Lying D) (node : ℕ) where
 
 -- ---- a run over disks that do not fail
 
-module _ {D : Type 0} (by : Disks D) (config : Shape) (run : ℕ) (items : List Item) (old new : ℕ → Lying D) (fine : AreUnfailing by config old new) where
+module _ {D : Type 0} (by : Disks D) (config : Shape) (run : ℕ) (items : List Item) (plain : AllByRecursion IsNoFault items) (old new : ℕ → Lying D)
+    (fine : AreUnfailing by config old new) where
   none_shown : (history : History) → IsWholeRun by config run items history old new → ShowsNone config history.events
   none_shown history whole number below =
       none_risen old new number config (failures true number history.events)
@@ -140,6 +141,7 @@ module _ {D : Type 0} (by : Disks D) (config : Shape) (run : ℕ) (items : List 
   whole_as_log history whole =
       whole.quiet
       (none_kept by config old fine.empty history.kept (sound_disks config run history.kept whole.over.legal.sound) whole.over.found)
+      plain
       (none_shown history whole)
 
   reports_log : (report : Report) (history : History) (bytes : List ℕ) → IsWholeRun by config run items history old new → Reports report config run items history bytes
@@ -221,7 +223,7 @@ module _ {D : Type 0} (by : Disks D) (config : Shape) (run : ℕ) (items : List 
 -- ---- a whole run
 
 module _ {D : Type 0} (by : Disks D) (config : Shape) (one : OneItem config) (run : ℕ) (report : Report) (old new : World D) (sink_old sink_new : Sinking) (status : ℕ)
-    (items : List Item) (holds : HoldsItems config old.left items) (fine : NothingFails by config old new sink_old sink_new) where
+    (items : List Item) (holds : HoldsItems config old.left items) (plain : AllByRecursion IsNoFault items) (fine : NothingFails by config old new sink_old sink_new) where
   -- what the source holds reads as these items
   reads_so : ReadsAs config (Some (flat_map item_spelling items)) items Whole
   reads_so = record { each = holds.each; within = holds.within; bytes = ([], sym (append-nil (flat_map item_spelling items)), refl) }
@@ -250,11 +252,11 @@ module _ {D : Type 0} (by : Disks D) (config : Shape) (one : OneItem config) (ru
   come : (outcome : Result (List ℕ) RunFault) → ComesTo by config run report old new outcome → status ≡ status_of outcome → Appends sink_old.taken sink_new.taken (to_send outcome) → Finally
   come outcome (inl unread) is sent =
       let memory : outcome ≡ Err Memory = unread.outcome_is ∙ ap (λ (f : RunFault). Err f) (all_read unread.fault unread.refuses) in
-      no_memory by config run items old.lain new.lain fine.disks report sink_old sink_new status (is ∙ ap status_of memory)
+      no_memory by config run items plain old.lain new.lain fine.disks report sink_old sink_new status (is ∙ ap status_of memory)
       (subst (λ (o : Result (List ℕ) RunFault). Appends sink_old.taken sink_new.taken (to_send o)) memory sent)
   come outcome (inr answered) is sent =
       let same = (read_once answered.items Whole answered.read.reads).0 in
-      ends_answered by config run items old.lain new.lain fine.disks report sink_old sink_new status outcome
+      ends_answered by config run items plain old.lain new.lain fine.disks report sink_old sink_new status outcome
       (subst (λ (its : List Item). AnswersTo by config run report its old.lain new.lain outcome) (sym same) answered.answers) is sent
 
   ends : Ran by config run report old new sink_old sink_new status → Finally
@@ -267,5 +269,5 @@ module _ {D : Type 0} (by : Disks D) (config : Shape) (one : OneItem config) (ru
 pub answers_as_log : {D : Type 0} (by : Disks D) (config : Shape) → InRange config → (run : ℕ) (report : Report) (old new : World D) (sink_old sink_new : Sinking) (status : ℕ)
     → Ran by config run report old new sink_old sink_new status → AnswersAsLog by config run report old new sink_old sink_new status
 answers_as_log by config range run report old new sink_old sink_new status ran =
-    λ items holds fine.
-    ends by config (λ item other rest more is are e. one_item config item other rest more range is are e) run report old new sink_old sink_new status items holds fine ran
+    λ items holds plain fine.
+    ends by config (λ item other rest more is are e. one_item config item other rest more range is are e) run report old new sink_old sink_new status items holds plain fine ran

@@ -28,6 +28,8 @@ use Rattle.sequence_law.proofs.Concluding.{acknowledged, refused}
 use Rattle.sequence_law.proofs.Founded.{all_owned}
 use Rattle.sequence_law.proofs.Reading.{pending_unknown, reads_agree}
 use Rattle.schedule_model.specs.Driven.{IsDriven, replies_of}
+use Rattle.stream_law.proofs.Finding.{singles}
+use Rattle.stream_law.proofs.Serving.{replies-served}
 use Rattle.stream_law.proofs.Standing.{streams_agree_with}
 use Rattle.cluster_disks.specs.declared.stop.OpenStop.{OpenStop}
 use Rattle.cluster_disks.specs.Failing.{IsRejected, OpensNot}
@@ -147,12 +149,13 @@ module _ {D P : Type 0} (by : Disks D) (config : Shape) (range : InRange config)
         few = subst (λ (k : List Kept). bytes_in k ≤ kept_limit) back_to back.start.few;
         within = subst (λ (k : List Kept). IsWithinLimits (job config run items k) history.events) back_to finished.within;
         each = finished.each;
+        fit = replies-served config run items history.events finished.fit (singles config run (payloads_on history.kept) [] history.events legal.follow);
         spelled = finished.spelled (subst AreKept back_to (record { disks = back.start.order; fit = back.start.fit }));
         opening = disk_opening by config history.events old new (told_in by before) (told_in by after) over finished.starts finished.clean;
         causes = disk_causes by config history.events old new (told_in by before) (told_in by after) over finished.causes;
         safe = λ founded. safe_from config run (payloads_on history.kept) history.events founded legal;
         streams = λ founded. streams_agree_with config run (payloads_on history.kept) founded history.events legal items finished.driven.followed;
-        quiet = λ empty none. quiet_replies config run items finished.fit history.events finished.driven none history.kept empty legal
+        quiet = λ empty plain none. quiet_replies config run items finished.fit plain history.events finished.driven none history.kept empty legal
             (subst (λ (k : List Kept). IsWithinLimits (job config run items k) history.events) back_to finished.within);
       }
 

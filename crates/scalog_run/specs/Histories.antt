@@ -1,6 +1,9 @@
 -- The history of a run over disks that are lent.
-use Rattle.std.specs.Prelude.{◌≡◌, ◌⊎◌, ℕ, ◌≤◌, List, [], length, IfSome, IsTrue, Result, Ok, Err}
+use Rattle.std.specs.Prelude.{◌≡◌, ◌⊎◌, ℕ, ◌≤◌, List, [], length, slice_get, IfSome, IsTrue, Some, Result, Ok, Err}
+use Rattle.std.specs.List.{AllByRecursion}
 use Rattle.command_frame.specs.declared.items.Item.{Item}
+use Rattle.command_frame.specs.Items.{IsNoFault}
+use Rattle.reply_frame.specs.declared.replies.Reply.{Reply}
 use Rattle.history_frame.specs.declared.events.Event.{Event}
 use Rattle.history_frame.specs.declared.events.History.{History}
 use Rattle.history_frame.specs.declared.events.Kept.{Kept}
@@ -16,6 +19,7 @@ use Rattle.plain_log.specs.Log.{log_of}
 use Rattle.segment_journal.specs.File.{recovered}
 use Rattle.sequence_law.specs.Safe.{IsSafe}
 use Rattle.schedule_model.specs.Driven.{IsDriven, IsFollowed, replies_of}
+use Rattle.stream_law.specs.Replies.{IsReplyTo}
 use Rattle.stream_law.specs.Streams.{StreamsAgree}
 use Rattle.cluster_disks.specs.declared.stop.OpenStop.{OpenStop}
 use Rattle.cluster_disks.specs.Failing.{IsRejected, OpensNot}
@@ -53,9 +57,10 @@ pub record AreOver {D : Type 0} (by : Disks D) (job : Job) (events : List Event)
 
 -- ---- a run that came to its end
 
--- The history of a run that came to its end: no limit was passed on the way, each item has its reply, what it shows of its disks
--- has its causes, and from founded lists it is safe and its streams agree with the one sequence. Where the disks kept nothing and
--- it shows no failure of them, the replies are those of the log of one thread.
+-- The history of a run that came to its end: no limit was passed on the way, each item has its reply, one that it may have, what it
+-- shows of its disks has its causes, and from founded lists it is safe and its streams agree with the one sequence. Where the disks
+-- kept nothing, no item is a line of the fault script and it shows no failure of the disks, the replies are those of the log of one
+-- thread.
 pub record IsWholeRun {D : Type 0} (by : Disks D) (config : Shape) (run : ℕ) (items : List Item) (history : History) (old new : ℕ → Lying D) : Type 0 where
   pub config_is : shape history.config ≡ config
   pub run_is : history.run ≡ run
@@ -64,13 +69,15 @@ pub record IsWholeRun {D : Type 0} (by : Disks D) (config : Shape) (run : ℕ) (
   pub few : bytes_in history.kept ≤ kept_limit
   pub within : IsWithinLimits (job config run items history.kept) history.events
   pub each : length (replies_of config run items history.events) ≡ length items
+  pub fit : (k : ℕ) (item : Item) (reply : Reply) → slice_get items k ≡ Some item → slice_get (replies_of config run items history.events) k ≡ Some reply
+      → IsReplyTo item reply
   pub spelled : IsHistory history
   pub opening : IsOpening by config history.events old new
   pub causes : HasCauses by config history.events old new
   pub safe : IsFounded config run (payloads_on history.kept) → IsSafe config (payloads_on history.kept) history.events
   pub streams : IsFounded config run (payloads_on history.kept)
       → StreamsAgree config (payloads_on history.kept) history.events (replies_of config run items history.events)
-  pub quiet : history.kept ≡ [] → ShowsNone config history.events → replies_of config run items history.events ≡ log_of config run items
+  pub quiet : history.kept ≡ [] → AllByRecursion IsNoFault items → ShowsNone config history.events → replies_of config run items history.events ≡ log_of config run items
 
 -- ---- a run that did not
 

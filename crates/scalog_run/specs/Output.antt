@@ -2,7 +2,7 @@
 use Rattle.std.specs.Prelude.{◌≡◌, ◌⊎◌, ℕ, List, [], ◌∷◌, ◌++◌, take, Option, Some, None, Result, Ok, Err}
 use Rattle.std.specs.Io.KnownBytes.{Appends}
 use Rattle.command_frame.specs.declared.items.Item.{Item}
-use Rattle.command_frame.specs.declared.items.Item.TheVariants.{Append, Read, Subscribe, Trim, Add, Finalise, Ask}
+use Rattle.command_frame.specs.declared.items.Item.TheVariants.{Append, Read, Subscribe, Trim, Add, Finalise, Ask, Fault}
 use Rattle.reply_frame.specs.declared.replies.Reply.{Reply}
 use Rattle.reply_frame.specs.Frames.{frame}
 use Rattle.reply_frame.specs.Replies.{reply_spelling}
@@ -23,6 +23,7 @@ lane_of (Trim lane position) = lane
 lane_of (Add lane shard) = lane
 lane_of (Finalise lane shard) = lane
 lane_of (Ask lane) = lane
+lane_of (Fault lane line) = lane
 
 -- the frames of the replies to items, in order of the items
 abbrev pub reply_frames : List Item → List Reply → List ℕ

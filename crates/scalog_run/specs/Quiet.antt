@@ -1,9 +1,9 @@
--- Runs over empty disks in which nothing fails: they are answered as the log of one thread answers.
+-- Runs over empty disks without lines of the fault script in which nothing fails: they are answered as the log of one thread answers.
 use Rattle.std.specs.Prelude.{◌≡◌, ◌⊎◌, ℕ, List, [], ◌++◌, Option, Some, None, IsSomeAnd, IsTrue, Ok}
 use Rattle.std.specs.Io.KnownBytes.{Appends}
 use Rattle.std.specs.List.{AllByRecursion, flat_map}
 use Rattle.command_frame.specs.declared.items.Item.{Item}
-use Rattle.command_frame.specs.Items.{IsItem, item_spelling, passed_limit}
+use Rattle.command_frame.specs.Items.{IsItem, IsNoFault, item_spelling, passed_limit}
 use Rattle.history_frame.specs.declared.events.History.{History}
 use Rattle.history_frame.specs.Spelling.{history_spelling}
 use Rattle.log_base.specs.ClusterShape.{Shape}
@@ -77,8 +77,8 @@ EndsAsLog by config run report items old new sink_old sink_new status =
     ⊎ ((status ≡ 7) × SendsLimit by config run items old new sink_old sink_new)
     ⊎ ((status ≡ 9) × Appends sink_old.taken sink_new.taken [])
 
--- Where nothing fails, items over empty disks are answered as the log of one thread answers them.
+-- Where nothing fails, items over empty disks are answered as the log of one thread answers them, if none is a line of the fault script.
 abbrev pub AnswersAsLog : {D : Type 0} → Disks D → Shape → ℕ → Report → World D → World D → Sinking → Sinking → ℕ → Type 0
 AnswersAsLog by config run report old new sink_old sink_new status =
-    (items : List Item) → HoldsItems config old.left items → NothingFails by config old new sink_old sink_new
+    (items : List Item) → HoldsItems config old.left items → AllByRecursion IsNoFault items → NothingFails by config old new sink_old sink_new
     → EndsAsLog by config run report items old.lain new.lain sink_old sink_new status

@@ -24,6 +24,8 @@ pub use run::{one_reading, run_items, scalog};
 #[cfg(test)]
 mod checking_tests;
 #[cfg(test)]
+mod line_tests;
+#[cfg(test)]
 mod stream_tests;
 #[cfg(test)]
 mod tests;

@@ -53,5 +53,6 @@ fn lane_of(item: &Item) -> u8
         Item::Add { lane, .. } => *lane,
         Item::Finalise { lane, .. } => *lane,
         Item::Ask { lane } => *lane,
+        Item::Fault { lane, .. } => *lane,
     }
 }
