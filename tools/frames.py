@@ -15,6 +15,21 @@ An item is one of
     finalise SHARD
     ask
 
+or a line of the fault script
+
+    hold
+    settle
+    tick NODE
+    deliver LETTER
+    drop LETTER
+    again LETTER
+    stop NODE
+    stop NODE after WRITES keep BYTES
+    lose NODE after WRITES
+    restart NODE
+    lead ORDERER
+    resubmit
+
 with `lane N:` before it where the lane is not 0. A record is text in quotes, with the escapes \\n \\t \\\\ \\" \\xHH, or
 `hex:` and pairs of hexadecimal digits. Empty lines are passed over.
 """
@@ -159,6 +174,33 @@ def ask(lane, rest):
     return frame(7, lane)
 
 
+# Lines of the fault script: N stands for a number.
+FAULT_LINES = (
+    "hold",
+    "settle",
+    "tick N",
+    "deliver N",
+    "drop N",
+    "again N",
+    "stop N",
+    "stop N after N keep N",
+    "lose N after N",
+    "restart N",
+    "lead N",
+    "resubmit",
+)
+FAULT_NUMBER = r"(0|[1-9][0-9]{0,5}|1000000)"
+FAULT_LINE = re.compile("|".join(line.replace("N", FAULT_NUMBER) for line in FAULT_LINES))
+FAULT_VERBS = {line.split()[0] for line in FAULT_LINES}
+
+
+def fault(lane, verb, rest):
+    line = " ".join([verb, *(rest or "").split()])
+    if not FAULT_LINE.fullmatch(line):
+        raise Refused("a line of the fault script, with numbers up to 1,000,000: " + ", ".join(FAULT_LINES))
+    return frame(8, lane + line.encode())
+
+
 VERBS = {
     "add": add,
     "append": append,
@@ -172,14 +214,16 @@ VERBS = {
 
 def item_frame(line):
     found = ITEM.fullmatch(line.strip())
-    if not found or found["verb"] not in VERBS:
+    if not found or found["verb"] not in VERBS and found["verb"] not in FAULT_VERBS:
         raise Refused(
             "add SHARD, append SHARD.REPLICA RECORD, read SHARD.REPLICA @POSITION, subscribe SHARD.REPLICA @POSITION COUNT, "
-            "trim POSITION, finalise SHARD or ask"
+            "trim POSITION, finalise SHARD, ask or a line of the fault script"
         )
     lane = number(found["lane"] or "0", 1, "a lane")
     if lane[0] > 63:
         raise Refused("a lane: 0 to 63")
+    if found["verb"] in FAULT_VERBS:
+        return fault(lane, found["verb"], found["rest"])
     return VERBS[found["verb"]](lane, found["rest"])
 
 
@@ -196,6 +240,8 @@ def item_text(frame_bytes):
         return f"{prefix}finalise {shard}"
     if kind == 7:
         return f"{prefix}ask"
+    if kind == 8:
+        return prefix + body.decode()
     if kind == 3:
         return f"{prefix}subscribe {shard}.{body[2]} @{int.from_bytes(body[3:11], 'big')} {int.from_bytes(body[11:], 'big')}"
     if kind == 1:

@@ -27,6 +27,9 @@ ITEMS = [
     ("lane 3: subscribe 1.0 @0 4096", "0000000f 03 03 0001 00 0000000000000000 1000"),
     ("ask", "00000002 07 00"),
     ("lane 9: ask", "00000002 07 09"),
+    ("hold", "00000006 08 00 686f6c64"),
+    ("lane 1: resubmit", "0000000a 08 01 72657375626d6974"),
+    ("stop 0 after 1 keep 1000000", "0000001d 08 00 " + b"stop 0 after 1 keep 1000000".hex()),
 ]
 
 # A reply's frame, and its text.
@@ -130,6 +133,10 @@ BAD_LINES = [
     ("subscribe 0.0 @0 0", "a count"),
     ("subscribe 0.0 @0 4097", "a count"),
     ("subscribe 0.0 0 1", "@POSITION"),
+    ("hold 1", "a line of the fault script"),
+    ("tick 01", "a line of the fault script"),
+    ("drop 1000001", "a line of the fault script"),
+    ("stop 0 after 1", "a line of the fault script"),
 ]
 
 # Bytes that are no reply's frames, what is shown before them, and a word of the fault.
