@@ -200,7 +200,7 @@ module _ {D : Type 0} (by : Disks D) (config : Shape) (run : ℕ) (items : List 
       let replies = replies_of config run items history.events in
       let front : AreReplies (length items) (reply_frames items replies) =
       replies_spelled config items replies whole.each is (all_replies_spelled config run (payloads_on history.kept) items history.events legal_here is whole.spelled.events)
-      (replies_of_legal ReplyFits tt tt tt stream_fits config run (payloads_on history.kept) items history.events legal_here is (answers_fit history.events widths.events)) in
+      (replies_of_legal ReplyFits tt tt tt (λ waiting few. omega arith) tt stream_fits config run (payloads_on history.kept) items history.events legal_here is (answers_fit history.events widths.events)) in
       let same : reply_frames items replies ≡ reply_frames items (replies_of (shape history.config) history.run items history.events) =
       ap (λ (s : Shape). reply_frames items (replies_of s run items history.events)) (sym whole.config_is)
       ∙ ap (λ (r : ℕ). reply_frames items (replies_of (shape history.config) r items history.events)) (sym whole.run_is) in

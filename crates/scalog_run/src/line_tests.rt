@@ -137,6 +137,9 @@ fn is_answered(rt: &HostRuntime, row: &Row) -> Result<bool, Fail> {
     let Some(history) = outcome.sent.strip_prefix(*replies) else {
         return Ok(false);
     };
+    if told.is_empty() {
+        return Ok(false);
+    }
     let mut parts = history.windows(told.len());
     Ok(outcome.status == status::DONE && parts.any(|bytes| bytes.starts_with(told)))
 }

@@ -263,7 +263,11 @@ fn bad_inputs_are_refused(rt: HostRuntime) -> Result<(), Fail> {
         ("length 2^32 - 1", b"\xff\xff\xff\xff\x01\0\0\0\0", 0),
         ("kind 9", b"\0\0\0\x02\x09\0", 0),
         ("a line that is none", b"\0\0\0\x07\x08\0holds", 0),
-        ("a plan without a disk", b"\0\0\0\x17\x08\0stop 4 after 0 keep 0", 0),
+        (
+            "a plan without a disk",
+            b"\0\0\0\x17\x08\0stop 4 after 0 keep 0",
+            0,
+        ),
         ("lane 64", b"\0\0\0\x04\x05\x40\0\0", 0),
         ("shard 2", b"\0\0\0\x04\x05\0\0\x02", 0),
         ("replica 2", b"\0\0\0\x06\x01\0\0\0\x02a", 0),

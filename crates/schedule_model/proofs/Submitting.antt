@@ -307,7 +307,7 @@ told-plain : (config : Shape) (shard : Shard) (s : Subscription) (more : Bool)
 told-plain config shard s true = (tt, tt)
 told-plain config shard s false = tt
 
-course-plain : (config : Shape) (awaited : Awaited) (reply : Reply) → IsPlainCourse (course_of config awaited reply)
+pub course-plain : (config : Shape) (awaited : Awaited) (reply : Reply) → IsPlainCourse (course_of config awaited reply)
 course-plain config (Storing primary client number) (Stored offset) =
     each-append IsPlain (settling config) (enquiry primary client number ∷ []) (settling-plain config) (tt, tt)
 course-plain config (Requesting orderer client value) NotLeading = requested-plain config (orderer + 1) client value (nat_lt (orderer + 1) config.orderers)

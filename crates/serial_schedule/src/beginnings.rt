@@ -113,7 +113,7 @@ fn client_of(lane: u8) -> Client
 }
 
 /// The replica that an item names is asked for the entry at a position.
-fn first_reading(
+pub fn first_reading(
     config: &Config,
     shard: Shard,
     replica: Replica,
@@ -133,7 +133,7 @@ fn first_reading(
 }
 
 /// A value is requested of orderer 0 on a lane.
-fn wish(config: &Config, lane: u8, value: Value) -> Duty
+pub fn wish(config: &Config, lane: u8, value: Value) -> Duty
     ensures { result ≡ request (shape config.now) 0 (client_of lane) value }
 {
     request(config, 0, client_of(lane), &value)

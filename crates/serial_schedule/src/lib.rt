@@ -13,6 +13,7 @@ mod noting;
 mod passing;
 mod schedule;
 
+pub use beginnings::{first_reading, wish};
 pub use schedule::Schedule;
 
 #[cfg(test)]

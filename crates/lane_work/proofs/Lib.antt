@@ -1,0 +1,10 @@
+pub mod Begun
+pub mod DueEvents
+pub mod ItemsLaw
+pub mod LaneEnds
+pub mod Leading
+pub mod Permits
+pub mod Rounds
+pub mod ServedItem
+pub mod ServingItems
+pub mod Tries
