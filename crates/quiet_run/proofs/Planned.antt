@@ -1,6 +1,7 @@
 -- Plans that are handed to disks: no count of faults rises, and the causes of failures go on.
-use Rattle.std.proofs.Common.{◌≡◌, false, ◌<◌, ℕ, zero, suc, List, [], ◌∷◌, ◌++◌, length, get_or, map, slice_get, take, Some, refl, sym, ap, subst, inl, inr, arith, ◌∙◌}
+use Rattle.std.proofs.Common.{◌≡◌, ◌≢◌, false, ◌<◌, ℕ, zero, suc, List, [], ◌∷◌, ◌++◌, length, get_or, map, slice_get, take, Option, Some, None, refl, sym, ap, subst, inl, inr, arith, ◌∙◌}
 use Rattle.std.specs.List.{AllByRecursion}
+use Rattle.std.specs.Prelude.{IsSomeAnd}
 use Rattle.std.proofs.Math.ListN.{set}
 use Rattle.std.proofs.lemmas.Bool.{cases_eq}
 use Rattle.disk_base.specs.declared.disk.Plan.{Plan}
@@ -11,13 +12,15 @@ use Rattle.node_model.specs.Durable.{payload_in_flight}
 use Rattle.node_model.specs.Machine.{ClusterNode}
 use Rattle.segment_journal.specs.Journalled.{planned}
 use Rattle.schedule_model.specs.declared.duties.Planned.{Planned}
+use Rattle.schedule_model.specs.declared.turns.Turn.{Turn}
 use Rattle.schedule_model.specs.Calling.{IsPlanned}
+use Rattle.schedule_model.specs.Driven.{next_plans_after, next_turn_after}
 use Rattle.shard_replica.specs.Lists.{Medium, but_turns, medium_at}
 use Rattle.storage_node.specs.Counting.{CountsOn}
 use Rattle.quiet_run.specs.declared.outcomes.DriveStop.{DriveStop}
 use Rattle.quiet_run.specs.Causes.{AllCountOn, media_at}
 use Rattle.quiet_run.specs.Planning.{AreHandedOver, IsHandedTo, TurnBy}
-use Rattle.quiet_run.specs.Running.{CausesGoOn, StopsWith}
+use Rattle.quiet_run.specs.Running.{CausesGoOn, StopsWith, TakesPlannedTurn}
 use Rattle.quiet_run.specs.Standing.{Job}
 use Rattle.quiet_run.proofs.Causing.{elsewhere, here_after, here_before}
 use Rattle.quiet_run.proofs.Failures.{all_same, causes_later}
@@ -114,3 +117,11 @@ causes_from config earlier later old between new counts goes first h = goes firs
 pub stops_from : (job : Job) (events : List Event) (nodes : List ClusterNode) (old between new : List (List Medium)) (stop : DriveStop) → AllCountOn old between
     → StopsWith job events nodes between new stop → StopsWith job events nodes old new stop
 stops_from job events nodes old between new stop counts stops first h = stops first (causes_later job.config events first old between counts h)
+
+-- ---- a turn behind its plans
+
+pub planned_turn : (job : Job) (events : List Event) (nodes : List ClusterNode) (old told new : List (List Medium)) (next : Option Turn)
+    → next ≡ next_turn_after job.config job.run job.items events → AreHandedOver (next_plans_after job.config job.run job.items events) nodes old told
+    → IsSomeAnd next (λ turn. (other : ℕ) → other ≢ turn.node.0 → media_at new other ≡ media_at told other) → TakesPlannedTurn job events nodes old new
+planned_turn job events nodes old told new None comes handed others = absurd others
+planned_turn job events nodes old told new (Some turn) comes handed others = record { turn = turn; comes = sym comes; told = told; planned = handed; others = others }

@@ -1,5 +1,5 @@
 -- A run on its way.
-use Rattle.std.specs.Prelude.{◌≡◌, ℕ, ◌+◌, ◌<◌, ◌≤◌, List, [], ◌∷◌, ◌++◌, length, Some, None}
+use Rattle.std.specs.Prelude.{◌≡◌, ◌≢◌, ℕ, ◌+◌, ◌<◌, ◌≤◌, List, [], ◌∷◌, ◌++◌, length, Some, None}
 use Rattle.reply_frame.specs.declared.replies.Reply.{Reply}
 use Rattle.history_frame.specs.declared.events.Event.{Event}
 use Rattle.history_frame.specs.declared.events.Happened.{Happened}
@@ -9,14 +9,15 @@ use Rattle.log_base.specs.ClusterShape.{Shape}
 use Rattle.log_base.specs.Shape.{shape}
 use Rattle.node_model.specs.Machine.{ClusterNode}
 use Rattle.schedule_model.specs.declared.turns.Turn.{Turn}
-use Rattle.schedule_model.specs.Driven.{next_turn_after, replies_of, scheduled_after}
+use Rattle.schedule_model.specs.Driven.{next_plans_after, next_turn_after, replies_of, scheduled_after}
 use Rattle.schedule_model.specs.Streams.{IsSingle}
 use Rattle.schedule_model.specs.Scheduling.{Scheduled, given, noted}
 use Rattle.quiet_run.specs.declared.running.Running.{Running}
 use Rattle.shard_replica.specs.Lists.{Medium}
 use Rattle.quiet_run.specs.declared.outcomes.DriveStop.{DriveStop}
-use Rattle.quiet_run.specs.Causes.{HaveCauses}
+use Rattle.quiet_run.specs.Causes.{HaveCauses, media_at}
 use Rattle.quiet_run.specs.Limits.{byte_limit, bytes_of, event_limit, limit_passed}
+use Rattle.quiet_run.specs.Planning.{AreHandedOver}
 use Rattle.quiet_run.specs.Runs.{IsRunSoFar, IsStoppedWith, NoLimitBefore}
 use Rattle.quiet_run.specs.Standing.{IsJob, Job, job}
 
@@ -88,6 +89,15 @@ pub record IsOver (job : Job) (events : List Event) (bytes : ℕ) (replies : Lis
   pub over : next_turn_after job.config job.run job.items events ≡ None
   pub none : limit_passed job events ≡ None
   pub replies_are : replies ≡ replies_of job.config job.run job.items events
+
+-- The failures to come that the schedule plans are handed to the disks, and then the node whose turn comes takes it: of the others all
+-- is told as before.
+pub record TakesPlannedTurn (job : Job) (events : List Event) (nodes : List ClusterNode) (old new : List (List Medium)) : Type 0 where
+  pub turn : Turn
+  pub comes : next_turn_after job.config job.run job.items events ≡ Some turn
+  pub told : List (List Medium)
+  pub planned : AreHandedOver (next_plans_after job.config job.run job.items events) nodes old told
+  pub others : (other : ℕ) → other ≢ turn.node.0 → media_at new other ≡ media_at told other
 
 -- Whatever was told at first: where the failures of the earlier events have causes, so have those of the later ones.
 abbrev pub CausesGoOn : Shape → List Event → List Event → List (List Medium) → List (List Medium) → Type 0

@@ -1,12 +1,13 @@
 //! Taking the turns of a run, one by one.
 
-ghost use Rattle.std.specs.Prelude.{◌≡◌, ◌+◌, length, map, Ok, true, false, OnOk, OnErr, IfErr};
+ghost use Rattle.std.specs.Prelude.{◌≡◌, ◌≢◌, ◌+◌, ℕ, length, map, Ok, true, false, OnOk, OnErr, IfErr, IsSomeAnd};
 ghost use Rattle.core_step.specs.Standing.{cluster_node};
 ghost use Rattle.quiet_run.specs.declared.outcomes.DriveStop.TheVariants.{Memory as Want};
-ghost use Rattle.quiet_run.specs.Causes.{node_media};
-ghost use Rattle.quiet_run.specs.Running.{CausesGoOn, HasGoneOn, IsOnItsWay, IsOver, IsTurnDue, StopsWith, job_of, scheduled_in};
+ghost use Rattle.quiet_run.specs.Causes.{media_at, node_media};
+ghost use Rattle.quiet_run.specs.Running.{CausesGoOn, HasGoneOn, IsOnItsWay, IsOver, IsTurnDue, StopsWith, TakesPlannedTurn, job_of, scheduled_in};
+ghost use Rattle.quiet_run.specs.Planning.{AreHandedOver};
 ghost use Rattle.quiet_run.specs.Runs.{IsStoppedRun};
-ghost use Rattle.schedule_model.specs.Scheduling.{given, next_turn};
+ghost use Rattle.schedule_model.specs.Scheduling.{given, next_plans, next_turn};
 
 use crate::limits::{is_one_full, limit_at};
 use crate::outcomes::DriveStop;
@@ -35,6 +36,10 @@ impl<'a> Running<'a> {
             (map (node_media J.state J.faults J.keeps_synced J.turns) nodes.old) (map (node_media J.state J.faults J.keeps_synced J.turns) nodes.new)) }
         ensures err_causes { IfErr result (λ stop. StopsWith (job_of self.old) self.old.events.items (map (cluster_node J.state) nodes.new)
             (map (node_media J.state J.faults J.keeps_synced J.turns) nodes.old) (map (node_media J.state J.faults J.keeps_synced J.turns) nodes.new) stop) }
+        ensures plans { result ≡ Ok true → TakesPlannedTurn (job_of self.old) self.old.events.items (map (cluster_node J.state) nodes.old)
+            (map (node_media J.state J.faults J.keeps_synced J.turns) nodes.old) (map (node_media J.state J.faults J.keeps_synced J.turns) nodes.new) }
+        ensures last_plans { result ≡ Ok false → AreHandedOver (next_plans (scheduled_in (job_of self.old) self.old.events.items)) (map (cluster_node J.state) nodes.old)
+            (map (node_media J.state J.faults J.keeps_synced J.turns) nodes.old) (map (node_media J.state J.faults J.keeps_synced J.turns) nodes.new) }
     {
         let next = self.schedule.next()?;
         hand_over(nodes, next.plans.get());
@@ -58,6 +63,9 @@ impl<'a> Running<'a> {
             (map (node_media J.state J.faults J.keeps_synced J.turns) nodes.old) (map (node_media J.state J.faults J.keeps_synced J.turns) nodes.new)) }
         ensures err_causes { IfErr result (λ stop. StopsWith (job_of self.old) self.old.events.items (map (cluster_node J.state) nodes.new)
             (map (node_media J.state J.faults J.keeps_synced J.turns) nodes.old) (map (node_media J.state J.faults J.keeps_synced J.turns) nodes.new) stop) }
+        ensures others { result ≡ Ok true → IsSomeAnd next (λ turn. (other : ℕ) → other ≢ turn.node.0
+            → media_at (map (node_media J.state J.faults J.keeps_synced J.turns) nodes.new) other ≡ media_at (map (node_media J.state J.faults J.keeps_synced J.turns) nodes.old) other) }
+        ensures still { result ≡ Ok false → map (node_media J.state J.faults J.keeps_synced J.turns) nodes.new ≡ map (node_media J.state J.faults J.keeps_synced J.turns) nodes.old }
     {
         let full = is_one_full(nodes);
         if let Some(cause) = limit_at(next.is_some(), self.events.len(), full, self.bytes) {
@@ -86,6 +94,8 @@ impl<'a> Running<'a> {
             (map (node_media J.state J.faults J.keeps_synced J.turns) nodes.old) (map (node_media J.state J.faults J.keeps_synced J.turns) nodes.new)) }
         ensures err_causes { OnErr result (StopsWith (job_of self.old) self.old.events.items (map (cluster_node J.state) nodes.new)
             (map (node_media J.state J.faults J.keeps_synced J.turns) nodes.old) (map (node_media J.state J.faults J.keeps_synced J.turns) nodes.new) Want) }
+        ensures others { OnOk result ((other : ℕ) → other ≢ turn.node.0
+            → media_at (map (node_media J.state J.faults J.keeps_synced J.turns) nodes.new) other ≡ media_at (map (node_media J.state J.faults J.keeps_synced J.turns) nodes.old) other) }
     {
         let mut out = Outbox::new(self.alloc);
         let happened = take_turn(nodes, usize::from(turn.node.0), turn.input, &mut out)?;

@@ -81,3 +81,12 @@ returns-clause-err_causes g c =
     let shows = subst (λ (n : ℕ). ShowsMark n c.in_ok-happened.happened.mark nodes told told_new) c.from.ensures c.in_ok-happened.ensures.shows in
     on_err_always c.keep.result _
     (stopped_with_after c.args.self.now nodes c.requires.way c.args.turn c.requires.due c.in_ok-happened.happened new taken told told_new shows)
+
+pub returns-clause-others : goal.returns-clause-others
+returns-clause-others g c =
+    let nodes = map (cluster_node {P = g.row.P.Denot} g.J.Journal.state) c.args.nodes.now in
+    let media = node_media {P = g.row.P.Denot} g.J.Journal.state g.J.Journal.faults g.J.Journal.keeps_synced g.J.Journal.turns in
+    let told = map media c.args.nodes.now in
+    let told_new = map media c.take_turn.new.nodes in
+    let shows = subst (λ (n : ℕ). ShowsMark n c.in_ok-happened.happened.mark nodes told told_new) c.from.ensures c.in_ok-happened.ensures.shows in
+    on_ok_more c.keep.result _ _ (λ (keeps : Keeps c.args.turn.node c.in_ok-happened.happened c.args.self.now c.keep.new.self). shows.others) c.keep.ensures
