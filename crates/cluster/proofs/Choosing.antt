@@ -1,5 +1,6 @@
 -- What a node takes in its turn fits it.
 use Rattle.std.proofs.Common.{◌≡◌, ℕ, List, Bool, true, false, slice_get, Some, Result, Ok, Err, IfOk, OnErr, refl, sym, ap, subst, ◌∙◌}
+use Rattle.counted_node.specs.Counted.{CountedState, counted_meanings}
 use Rattle.history_frame.specs.declared.inputs.Input.{Input}
 use Rattle.history_frame.specs.declared.inputs.Input.TheVariants.{Tick, Restart}
 use Rattle.history_frame.specs.declared.events.Happened.{Happened}
@@ -55,7 +56,7 @@ module _ {A : Type 0} where
   abbrev pub but_fetched : Holder A → Holder A → Holder A
   but_fetched old new = (record old.0 { fetched = new.0.fetched; notes = new.0.notes }, old.1)
 
-  pub fetches_only : (node : ℕ) (old new : Holder A) (fetched : Fetched) → Fetches node_meanings node old new fetched → new ≡ but_fetched old new
+  pub fetches_only : (node : ℕ) (old new : Holder A) (fetched : Fetched) → Fetches counted_meanings node old new fetched → new ≡ but_fetched old new
   fetches_only node old new (GotLetter letter) f = subst (λ (x : Holder A). x ≡ but_fetched old x) (sym f.0.1) refl
   fetches_only node old new Empty f = subst (λ (x : Holder A). x ≡ but_fetched old x) (sym f.2) refl
 
@@ -72,11 +73,11 @@ module _ {A : Type 0} where
       taken Empty t = subst IsSpelledInput (sym t) tt
 
   pub chosen_fits : (down : Bool) (node : ℕ) (old new : Holder A) (input : Input) → IsTurnInput down node old new input → (turn : Turn Happened) → old.0.turn ≡ Some turn → turn.node ≡ node
-      → (start : ClusterNode) → slice_get old.0.deal.starts node ≡ Some start → node_meanings.fits (node_now start turn.events) input
+      → (start : CountedState) → slice_get old.0.deal.starts node ≡ Some start → node_meanings.fits (node_now start turn.events) input
   chosen_fits true node old new input h turn has at start there = subst (node_meanings.fits (node_now start turn.events)) (sym h.1) (restart_fits (node_now start turn.events))
   chosen_fits false node old new input h turn has at start there = taken h.0 h.1 h.2
     where
-      taken : (fetched : Fetched) → Fetches node_meanings node old new fetched → TakesUp fetched input → node_meanings.fits (node_now start turn.events) input
+      taken : (fetched : Fetched) → Fetches counted_meanings node old new fetched → TakesUp fetched input → node_meanings.fits (node_now start turn.events) input
       taken (GotLetter letter) f t = f.1 turn has at start there input (delivers_told letter input t)
       taken Empty f t = subst (node_meanings.fits (node_now start turn.events)) (sym t) (tick_fits (node_now start turn.events))
 
@@ -84,7 +85,7 @@ module _ {A : Type 0} where
   chosen_last true node old new input h = subst (λ (x : Input). IsLastFetched node (delivery x) new.0.fetched) (sym h.1) tt
   chosen_last false node old new input h = taken h.0 h.1 h.2
     where
-      taken : (fetched : Fetched) → Fetches node_meanings node old new fetched → TakesUp fetched input → IsLastFetched node (delivery input) new.0.fetched
+      taken : (fetched : Fetched) → Fetches counted_meanings node old new fetched → TakesUp fetched input → IsLastFetched node (delivery input) new.0.fetched
       taken (GotLetter letter) f t = subst (λ o. IsLastFetched node o new.0.fetched) (sym (delivers_told letter input t)) (addressed node letter, (λ i. (f.0.1 i).0.fetched), refl, refl)
       taken Empty f t = subst (λ (x : Input). IsLastFetched node (delivery x) new.0.fetched) (sym t) tt
 

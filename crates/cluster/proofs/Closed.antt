@@ -6,7 +6,8 @@ use Rattle.std.proofs.lemmas.List.{length-map}
 use Rattle.std.proofs.lemmas.Option.{slice_get-map}
 use Rattle.answer_law.specs.Frames.{FitsFrame}
 use Rattle.answer_law.proofs.Spelled.{events_spelled}
-use Rattle.atomic_table.specs.declared.shared.Seat.{Seat}
+use Rattle.counted_node.specs.Counted.{CountedState, counted_meanings, node_in}
+use Rattle.counted_node.specs.Projected.{legal_projects, node_after, node_at}
 use Rattle.history_frame.specs.declared.events.Event.{Event}
 use Rattle.history_frame.specs.declared.events.Happened.{Happened}
 use Rattle.history_frame.specs.declared.events.History.{History}
@@ -14,26 +15,24 @@ use Rattle.history_frame.specs.declared.events.Kept.{Kept}
 use Rattle.history_frame.specs.Spelling.{DisksRise, InPlace, IsHistory, IsKept}
 use Rattle.log_base.specs.ClusterShape.{InRange, Shape}
 use Rattle.log_base.specs.Shape.{shape}
-use Rattle.log_base.specs.Machines.{state_after as machine_after}
+use Rattle.log_base.specs.Machines.{of_node, state_after as machine_after}
 use Rattle.log_base.specs.declared.machine.Committed.{Committed}
 use Rattle.node_model.specs.Legal.{IsLawful, IsLegal}
-use Rattle.node_model.specs.Machine.{ClusterNode, node_meanings}
 use Rattle.node_model.specs.Sound.{payloads_on}
+use Rattle.node_table.specs.Numbering.{nodes_of}
 use Rattle.tied_cells.specs.Closing.{AreAll, IsOneHistory}
-use Rattle.tied_cells.specs.History.{Entry, is_made_by, own_of}
+use Rattle.tied_cells.specs.History.{Entry, events, is_made_by, own_of}
 use Rattle.tied_cells.specs.declared.account.Account.{Account}
 use Rattle.tied_cells.specs.declared.board.Own.{Own}
-use Rattle.tied_cells.specs.declared.board.Stored.{Stored}
-use Rattle.tied_cells.specs.declared.board.View.{View}
 use Rattle.tied_cells.proofs.Picked.{cell_happened, own_stands, stands_picked}
-use Rattle.cluster.specs.Clusters.{IsBegun}
+use Rattle.cluster.specs.Clusters.{IsBegun, PassSeat}
 use Rattle.cluster.specs.History.{AreAllEvents, IsClosed, StandAfter, as_event, event_at, history_from}
 use Rattle.cluster.specs.Submitting.{SubmitsAlone}
 use Rattle.cluster.proofs.Lawful.{lawful, node_is}
 use Rattle.cluster.proofs.Places.{history_entry, history_get}
 use Rattle.cluster.proofs.Submits.{all_agree}
 
-module _ {A : Type 0} (passes : List (Seat (Stored A Happened) (View ClusterNode Happened) × Account)) (log : List (Entry Happened)) (all : AreAll passes log) where
+module _ {A : Type 0} (passes : List (PassSeat A × Account)) (log : List (Entry Happened)) (all : AreAll passes log) where
   pub events_of_passes : AreAllEvents passes (history_from 0 log)
   events_of_passes = record {
     each = λ k pass there j own among.
@@ -51,33 +50,42 @@ module _ {A : Type 0} (passes : List (Seat (Stored A Happened) (View ClusterNode
         record { k = a.0; pass = a.1; there = a.2; j = p.at; own = own_of (place + 0) h.entry; among = ap (λ (l : List (Own Happened)). slice_get l p.at) e.0 ∙ p.there; event_is = h.event_is };
   }
 
-module _ {A : Type 0} (state : A → ClusterNode) (config : Shape) (run : ℕ) (kept : List Kept) (range : InRange config) (starts : List ClusterNode) (begun : IsBegun config run (payloads_on kept) starts)
-    (machines : List A) (lists : List (List (Committed Happened))) (log : List (Entry Happened)) (one : IsOneHistory state node_meanings starts machines lists log)
-    (passes : List (Seat (Stored A Happened) (View ClusterNode Happened) × Account)) (all : AreAll passes log)
-    (alone : (k : ℕ) (pass : Seat (Stored A Happened) (View ClusterNode Happened) × Account) → slice_get passes k ≡ Some pass → SubmitsAlone run pass.1.number pass.0.me.0.own) where
+module _ {A : Type 0} (state : A → CountedState) (config : Shape) (run : ℕ) (kept : List Kept) (range : InRange config) (starts : List CountedState) (begun : IsBegun config run (payloads_on kept) (map node_in starts))
+    (machines : List A) (lists : List (List (Committed Happened))) (log : List (Entry Happened)) (one : IsOneHistory state counted_meanings starts machines lists log)
+    (passes : List (PassSeat A × Account)) (all : AreAll passes log)
+    (alone : (k : ℕ) (pass : PassSeat A × Account) → slice_get passes k ≡ Some pass → SubmitsAlone run pass.1.number pass.0.me.0.own) where
   legal : IsLegal config run (payloads_on kept) (history_from 0 log)
-  legal = lawful config run (payloads_on kept) range begun.sound starts begun.first log one.legal (all_agree run passes log all alone)
+  legal =
+      lawful config run (payloads_on kept) range begun.sound (map node_in starts) begun.first log (legal_projects starts (events log) one.legal) (all_agree run passes log all alone)
 
-  nodes_stand : StandAfter config (payloads_on kept) (history_from 0 log) (map state machines)
+  all_starts : length starts ≡ nodes_of config
+  all_starts = sym (length-map starts node_in) ∙ begun.first.all
+
+  -- a node after its events
+  stood : (number : ℕ) (within : number < length starts) → state (one.nodes number within).0 ≡ machine_after counted_meanings (one.nodes number within).3.0 (of_node number (events log))
+  stood number within = let node = one.nodes number within in node.3.2 ∙ ap (machine_after counted_meanings node.3.0) (sym (cell_happened number 0 log))
+
+  nodes_stand : StandAfter config (payloads_on kept) (history_from 0 log) (map (λ (m : A). (state m).node) machines)
   nodes_stand = record {
-    all = length-map machines state ∙ (one.machines_are ∙ begun.first.all);
+    all = length-map machines (λ (m : A). (state m).node) ∙ (one.machines_are ∙ all_starts);
     each = λ number below.
-        let within : number < length starts = let count = begun.first.all in omega arith in
+        let within : number < length starts = omega (arith, below, all_starts) in
         let node = one.nodes number within in
-        let now = node.3.2 ∙ (ap (machine_after node_meanings node.3.0) (sym (cell_happened number 0 log))
-        ∙ node_is config run (payloads_on kept) range begun.sound starts begun.first log number node.3.0 node.3.1) in
-        slice_get-map state machines number ∙ (ap (option_map state) node.1 ∙ (λ i. Some (now i)));
+        let now = ap (λ (s : CountedState). s.node) (stood number within)
+        ∙ (node_after node.3.0 (of_node number (events log))
+        ∙ node_is config run (payloads_on kept) range begun.sound (map node_in starts) begun.first log number node.3.0.node (node_at starts number node.3.0 node.3.1)) in
+        slice_get-map (λ (m : A). (state m).node) machines number ∙ (ap (option_map (λ (m : A). (state m).node)) node.1 ∙ (λ i. Some (now i)));
   }
 
   module _ (history : History) (config_is : shape history.config ≡ config) (run_is : history.run ≡ run) (kept_is : history.kept ≡ kept) (events_are : history.events ≡ history_from 0 log) where
-    pub closed_so : IsClosed config run kept passes (map state machines) history
+    pub closed_so : IsClosed config run kept passes (map (λ (m : A). (state m).node) machines) history
     closed_so = record {
       config_is = config_is;
       run_is = run_is;
       kept_is = kept_is;
       lawful = subst (λ (x : Shape × ℕ × List Kept × List Event). IsLegal x.0 x.1 (payloads_on x.2) x.3) (λ i. (sym config_is i, sym run_is i, sym kept_is i, sym events_are i)) legal;
       events_are = subst (AreAllEvents passes) (sym events_are) (events_of_passes passes log all);
-      stand = subst (λ (es : List Event). StandAfter config (payloads_on kept) es (map state machines)) (sym events_are) nodes_stand;
+      stand = subst (λ (es : List Event). StandAfter config (payloads_on kept) es (map (λ (m : A). (state m).node) machines)) (sym events_are) nodes_stand;
     }
 
     pub legal_so : IsLegal config run (payloads_on kept) history.events

@@ -3,19 +3,15 @@ use Rattle.std.proofs.Common.{◌≡◌, ◌≤◌, ℕ, zero, suc, ◌*◌, Lis
 use Rattle.std.specs.List.{AllByRecursion, flat_map}
 use Rattle.std.proofs.lemmas.Option.{none-some}
 use Rattle.answer_law.specs.Frames.{FitsFrame}
-use Rattle.atomic_table.specs.declared.shared.Seat.{Seat}
 use Rattle.history_frame.specs.declared.events.Event.{Event}
 use Rattle.history_frame.specs.declared.events.Happened.{Happened}
 use Rattle.history_frame.specs.declared.events.Sent.{Sent}
 use Rattle.history_frame.specs.Spelling.{event_size, sent_spelling}
 use Rattle.log_base.specs.Wide.{be2, be4}
 use Rattle.log_base.proofs.Legal.{at_push}
-use Rattle.node_model.specs.Machine.{ClusterNode}
 use Rattle.tied_cells.specs.declared.account.Account.{Account}
 use Rattle.tied_cells.specs.declared.board.Own.{Own}
-use Rattle.tied_cells.specs.declared.board.Stored.{Stored}
-use Rattle.tied_cells.specs.declared.board.View.{View}
-use Rattle.cluster.specs.Clusters.{AllFit}
+use Rattle.cluster.specs.Clusters.{AllFit, PassSeat}
 use Rattle.cluster.specs.Events.{own_event}
 use Rattle.cluster.specs.History.{AreAllEvents}
 use Rattle.cluster.proofs.Sizes.{event_parts}
@@ -44,8 +40,8 @@ pub all_got : {A : Type 0} (P : A → Type 0) (xs : List A) → ((k : ℕ) (x : 
 all_got P [] h = tt
 all_got P (x ∷ xs) h = (h zero x refl, all_got P xs (λ k y there. h (suc k) y there))
 
-module _ {A : Type 0} (passes : List (Seat (Stored A Happened) (View ClusterNode Happened) × Account)) where
-  pub all_fit : ((k : ℕ) (pass : Seat (Stored A Happened) (View ClusterNode Happened) × Account) → slice_get passes k ≡ Some pass → AllFit pass.0.me.0.own)
+module _ {A : Type 0} (passes : List (PassSeat A × Account)) where
+  pub all_fit : ((k : ℕ) (pass : PassSeat A × Account) → slice_get passes k ≡ Some pass → AllFit pass.0.me.0.own)
       → (events : List Event) → AreAllEvents passes events → AllByRecursion (λ (event : Event). FitsFrame event.happened) events
   all_fit fit events are = all_got (λ (event : Event). FitsFrame event.happened) events (λ place event there.
       let one = are.all place event there in

@@ -3,10 +3,11 @@ use Rattle.std.proofs.Common.{◌≡◌, ◌⊎◌, ◌≤◌, ℕ, List, [], Bo
 use Rattle.std.specs.Bool.{OnFalse}
 use lib.ListN.{length-map}
 use Rattle.core_step.specs.Known.{is_down}
+use Rattle.counted_node.specs.Counted.{CountedState, counted_meanings}
 use Rattle.history_frame.specs.declared.events.Happened.{Happened}
 use Rattle.history_frame.specs.declared.inputs.Input.{Input}
 use Rattle.log_base.specs.declared.machine.Committed.{Committed}
-use Rattle.node_model.specs.Machine.{ClusterNode, delivery, node_meanings, posted}
+use Rattle.node_model.specs.Machine.{delivery, node_meanings, posted}
 use Rattle.reply_frame.specs.declared.replies.Reply.{Reply}
 use Rattle.tied_cells.specs.declared.board.Cell.{Cell}
 use Rattle.tied_cells.specs.declared.board.Addressed.{Addressed}
@@ -16,7 +17,7 @@ use Rattle.tied_cells.specs.Turns.{HasStepped, HasTurn, HoldsNothing, IsLastFetc
 use Rattle.tied_cells.specs.Views.{IsPlaced, grown, let_go, undelivered}
 use Rattle.cluster.specs.Posting.{AllGoOut, IsMail}
 use Rattle.cluster.specs.Stepping.{Acts}
-use Rattle.cluster.specs.Events.{Commits, GivenUnder, HeldAt, Holder, IsGiven, IsTurn, IsTurnInput, TurnsUnder, at_turn, node_now}
+use Rattle.cluster.specs.Events.{Commits, GivenUnder, HeldAt, Holder, IsGiven, IsTurn, IsTurnInput, TurnsUnder, at_turn, counted_now, node_now}
 use Rattle.cluster.proofs.Choosing.{but_fetched}
 use Rattle.cluster.proofs.Making.{commits, event_is, step_follows, turn_fetched}
 
@@ -28,7 +29,7 @@ module _ {A : Type 0} where
     (λ i. (only i).1) ∙ turn.1,
   )
 
-module _ {A : Type 0} (state : A → ClusterNode) where
+module _ {A : Type 0} (state : A → CountedState) where
   -- a turn stays in hand
   pub held_moves : (old new : Holder A) (node : ℕ) (before after : Cell A Happened) → HeldAt state old node before → new ≡ but_fetched old new
       → after.events.items ≡ before.events.items → state after.machine ≡ state before.machine → HeldAt state new node after
@@ -37,7 +38,7 @@ module _ {A : Type 0} (state : A → ClusterNode) where
     stands = (
       h.stands.0,
       (λ i. slice_get (only i).0.deal.starts node) ∙ h.stands.1,
-      stays ∙ (h.stands.2 ∙ ap (λ es. node_now h.stands.0 es) (sym same)),
+      stays ∙ (h.stands.2 ∙ ap (λ es. counted_now h.stands.0 es) (sym same)),
     );
   }
 
@@ -46,28 +47,28 @@ module _ {A : Type 0} (state : A → ClusterNode) where
       (letters : List (ℕ × List ℕ)) (acts : Acts (state mid) (state after.machine) input happened letters) where
     -- what happened may come next
     pub has_stepped : node_meanings.fits (node_now at.stands.0 before.events.items) input → IsLastFetched node (delivery input) taken.0.fetched
-        → (n : ℕ) → n ≡ node → HasStepped state node_meanings taken.0 n after happened
+        → (n : ℕ) → n ≡ node → HasStepped state counted_meanings taken.0 n after happened
     has_stepped fits last n here =
         let start = at.stands.0 in
         let there : slice_get taken.0.deal.starts node ≡ Some start = (λ i. slice_get (only i).0.deal.starts node) ∙ at.stands.1 in
-        let stands : state mid ≡ node_now start after.events.items = was ∙ (at.stands.2 ∙ ap (λ (es : List (Committed Happened)). node_now start es) (sym same)) in
+        let stands : state mid ≡ counted_now start after.events.items = was ∙ (at.stands.2 ∙ ap (λ (es : List (Committed Happened)). counted_now start es) (sym same)) in
         let fits' : node_meanings.fits (node_now start after.events.items) input = subst (λ (es : List (Committed Happened)). node_meanings.fits (node_now start es) input) (sym same) fits in
-        subst (λ (k : ℕ). HasStepped state node_meanings taken.0 k after happened) (sym here)
+        subst (λ (k : ℕ). HasStepped state counted_meanings taken.0 k after happened) (sym here)
         (step_follows taken.0 node after.events.items start (state mid) (state after.machine) input happened letters there stands acts fits' last)
 
-    module _ (done : Holder A) (place : ℕ) (slots : List (ℕ × Stored A Happened)) (is : done ≡ (grown node_meanings taken.0 place happened, slots)) (n : ℕ) (here : n ≡ node)
-        (placed : IsPlaced node_meanings taken.0.deal.starts (record { node = n; events = after.events.items }) place happened) where
+    module _ (done : Holder A) (place : ℕ) (slots : List (ℕ × Stored A Happened)) (is : done ≡ (grown counted_meanings taken.0 place happened, slots)) (n : ℕ) (here : n ≡ node)
+        (placed : IsPlaced counted_meanings taken.0.deal.starts (record { node = n; events = after.events.items }) place happened) where
       committed : Commits held done node place before.events.items happened
       committed = commits held taken done node place before.events.items happened slots only is at.turn.0
-          (subst (λ (x : ℕ × List (Committed Happened)). IsPlaced node_meanings taken.0.deal.starts (record { node = x.0; events = x.1 }) place happened) (λ i. (here i, same i)) placed)
+          (subst (λ (x : ℕ × List (Committed Happened)). IsPlaced counted_meanings taken.0.deal.starts (record { node = x.0; events = x.1 }) place happened) (λ i. (here i, same i)) placed)
 
       left : done.0.fetched ≡ undelivered (delivery input) taken.0.fetched
       left = (λ i. (is i).0.fetched) ∙ ap (λ (x : Input). undelivered (delivery x) taken.0.fetched) acts.input_is
 
       -- it is a turn's
-      pub turns_under : (down : Bool) → down ≡ is_down (state before.machine).state → IsTurnInput down node held taken input → TurnsUnder held done node place before.events.items letters
+      pub turns_under : (down : Bool) → down ≡ is_down (state before.machine).node.state → IsTurnInput down node held taken input → TurnsUnder held done node place before.events.items letters
       turns_under down down_is chosen =
-          let asleep : down ≡ is_down (node_now at.stands.0 before.events.items).state = down_is ∙ ap (λ (s : ClusterNode). is_down s.state) at.stands.2 in record {
+          let asleep : down ≡ is_down (node_now at.stands.0 before.events.items).state = down_is ∙ ap (λ (s : CountedState). is_down s.node.state) at.stands.2 in record {
             happened = happened;
             commits = committed;
             letters_are = acts.letters_are;
@@ -130,10 +131,10 @@ module _ {A : Type 0} where
   pub nothing_held : (done new : Holder A) → new ≡ (let_go done.0, []) → HoldsNothing new
   nothing_held done new h = (λ i. (h i).0.turn, λ i. (h i).1)
 
-module _ {A : Type 0} (state : A → ClusterNode) where
+module _ {A : Type 0} (state : A → CountedState) where
   -- a turn that was taken
   pub held_at : (old me : Holder A) (node : ℕ) (cell : Cell A Happened) → me ≡ at_turn old node cell.events.items
-      → StandsAfter state node_meanings old.0.deal.starts node cell.machine cell.events.items → HeldAt state me node cell
+      → StandsAfter state counted_meanings old.0.deal.starts node cell.machine cell.events.items → HeldAt state me node cell
   held_at old me node cell e stands = record {
     turn = ((λ i. (e i).0.turn), (λ i. (e i).1));
     stands = (stands.0, (λ i. slice_get (e i).0.deal.starts node) ∙ stands.1, stands.2);

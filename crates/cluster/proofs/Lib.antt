@@ -1,5 +1,6 @@
 pub mod Begins
 pub mod Brief
+pub mod Causing
 pub mod Charging
 pub mod Choosing
 pub mod Closed
@@ -9,8 +10,10 @@ pub mod Giving
 pub mod GoingOut
 pub mod Holding
 pub mod Lawful
+pub mod Left
 pub mod Making
 pub mod Merged
+pub mod OpeningEvents
 pub mod Openings
 pub mod Passing
 pub mod Places

@@ -5,13 +5,13 @@ use Rattle.std.proofs.lemmas.Bool.{cases_lt, ne_eqb}
 use Rattle.std.proofs.lemmas.Option.{same_Some, slice_get-map, slice_get_within}
 use Rattle.std.specs.Option.{option_map}
 use Rattle.std.proofs.lemmas.List.Sorted.{IsPermutation-refl, IsPermutation-cons, IsPermutation-append_right, IsPermutation-middle, IsPermutation-trans, length_permutation}
+use Rattle.counted_node.specs.Counted.{CountedState, counted_meanings}
 use Rattle.history_frame.specs.declared.events.Event.{Event}
 use Rattle.history_frame.specs.declared.events.Happened.{Happened}
 use Rattle.history_frame.specs.Merging.{IsComplete, IsMerged, events_from}
 use Rattle.history_frame.specs.Merging.{event_at as committed_at}
 use Rattle.history_frame.proofs.MergeLaws.{one_order}
 use Rattle.log_base.specs.declared.machine.Committed.{Committed}
-use Rattle.node_model.specs.Machine.{ClusterNode, node_meanings}
 use Rattle.tied_cells.specs.Closing.{IsOneHistory}
 use Rattle.tied_cells.specs.History.{Entry, committed_of, is_at, own_of, picked}
 use Rattle.tied_cells.specs.History.{events as events_of}
@@ -116,8 +116,8 @@ all_moved place count (entry ∷ log) within =
     (IsPermutation-cons (event_at place entry) (events_from 0 (cells_from (suc place) 0 count log)) (history_from (suc place) log)
     (all_moved (suc place) count log (λ k e there. within (suc k) e there)))
 
-module _ {A : Type 0} (state : A → ClusterNode) (starts : List ClusterNode) (machines : List A) (lists : List (List (Committed Happened))) (log : List (Entry Happened))
-    (one : IsOneHistory state node_meanings starts machines lists log) where
+module _ {A : Type 0} (state : A → CountedState) (starts : List CountedState) (machines : List A) (lists : List (List (Committed Happened))) (log : List (Entry Happened))
+    (one : IsOneHistory state counted_meanings starts machines lists log) where
   -- the nodes of the log are among those that there are
   pub nodes_within : (k : ℕ) (entry : Entry Happened) → slice_get log k ≡ Some entry → entry.event.node < length starts
   nodes_within k entry there =

@@ -4,6 +4,7 @@ use Rattle.std.proofs.lemmas.List.{length-map}
 use Rattle.std.specs.Option.{option_map}
 use Rattle.std.proofs.lemmas.Option.{none-some, same_Some, slice_get-map}
 use Rattle.answer_law.specs.Frames.{FitsFrame}
+use Rattle.counted_node.specs.Counted.{CountedState, counted_meanings, node_in}
 use Rattle.history_frame.specs.declared.events.Happened.{Happened}
 use Rattle.history_frame.specs.declared.inputs.Input.{Input}
 use Rattle.history_frame.specs.declared.inputs.Input.TheVariants.{Lead, Restart}
@@ -94,7 +95,7 @@ orderer_within config range = let odd = range.odd in omega arith
 first_orderer : (config : Shape) → InRange config → 0 < config.orderers
 first_orderer config range = let odd = range.odd in omega arith
 
-quiet_asked : (config : Shape) (asked : NodeId × Input) → IsAsked config asked → (delivery asked.1 ≡ None) × (submitted asked.1 ≡ None)
+pub quiet_asked : (config : Shape) (asked : NodeId × Input) → IsAsked config asked → (delivery asked.1 ≡ None) × (submitted asked.1 ≡ None)
 quiet_asked config asked (inl h) = (ap delivery h.1, ap submitted h.1)
 quiet_asked config asked (inr h) = (ap delivery h.1, ap submitted h.1)
 
@@ -108,53 +109,53 @@ owns_fit place [] fit k own there = absurd (none-some own there)
 owns_fit place (event ∷ log) fit zero own there = subst (λ (o : Own Happened). FitsFrame o.happened) (same_Some _ own there) (fit zero event refl)
 owns_fit place (event ∷ log) fit (suc k) own there = owns_fit (suc place) log (λ j e at. fit (suc j) e at) k own there
 
-module _ (config : Shape) (kept : KeptLists) (range : InRange config) (starts : List ClusterNode) (first : AreFirst config kept starts) where
-  fits_asked : (asked : NodeId × Input) → IsAsked config asked → (log : List (Event Happened)) (start : ClusterNode) → slice_get starts asked.0.0 ≡ Some start
-      → node_meanings.fits (state_after node_meanings start (of_node asked.0.0 log)) asked.1
+module _ (config : Shape) (kept : KeptLists) (range : InRange config) (starts : List CountedState) (first : AreFirst config kept (map node_in starts)) where
+  fits_asked : (asked : NodeId × Input) → IsAsked config asked → (log : List (Event Happened)) (start : CountedState) → slice_get starts asked.0.0 ≡ Some start
+      → counted_meanings.fits (state_after counted_meanings start (of_node asked.0.0 log)) asked.1
   fits_asked asked (inl h) log start there =
-      let now = state_after node_meanings start (of_node asked.0.0 log) in subst (node_meanings.fits now) (sym h.1) (restart_fits now)
+      let now = state_after counted_meanings start (of_node asked.0.0 log) in subst (counted_meanings.fits now) (sym h.1) (restart_fits now.node)
   fits_asked asked (inr h) log start there =
       let at = subst (λ (n : ℕ). slice_get starts n ≡ Some start) h.0 there in
-      subst (node_meanings.fits (state_after node_meanings start (of_node asked.0.0 log))) (sym h.1)
+      subst (counted_meanings.fits (state_after counted_meanings start (of_node asked.0.0 log))) (sym h.1)
       (given_lead config kept starts first 0 (first_orderer config range) (orderer_within config range) start at (of_node asked.0.0 log))
 
-  pub may_open : MayOpen node_meanings starts (opening config)
+  pub may_open : MayOpen counted_meanings starts (opening config)
   may_open = record {
     nodes = λ k asked there. let all = first.all in let within = orderer_within config range in
-        ⊎_elim (λ (h : (asked.0.0 < nodes_of config) × (asked.1 ≡ Restart)). let below = h.0 in let w : asked.0.0 < length starts = omega arith in w)
-        (λ (h : (asked.0.0 ≡ orderer_node config 0) × (asked.1 ≡ Lead)). let at = h.0 in let w : asked.0.0 < length starts = omega arith in w) (is_asked config k asked there);
+        ⊎_elim (λ (h : (asked.0.0 < nodes_of config) × (asked.1 ≡ Restart)). let below = h.0 in let size = length-map starts node_in in let w : asked.0.0 < length starts = omega arith in w)
+        (λ (h : (asked.0.0 ≡ orderer_node config 0) × (asked.1 ≡ Lead)). let at = h.0 in let size = length-map starts node_in in let w : asked.0.0 < length starts = omega arith in w) (is_asked config k asked there);
     quiet = λ k asked there. (quiet_asked config asked (is_asked config k asked there)).0;
     fits = λ log asked rest all legal start there.
-        fits_asked asked (is_asked config (length log) asked (ap (λ (l : List (NodeId × Input)). slice_get l (length log)) all ∙ at_map (asked_by node_meanings) log asked rest)) log start there;
+        fits_asked asked (is_asked config (length log) asked (ap (λ (l : List (NodeId × Input)). slice_get l (length log)) all ∙ at_map (asked_by counted_meanings) log asked rest)) log start there;
   }
 
   -- each event of the opening is small
-  small_event : (log : List (Event Happened)) → IsLegal node_meanings starts log → map (asked_by node_meanings) log ≡ opening config → (k : ℕ) (event : Event Happened) → slice_get log k ≡ Some event
+  small_event : (log : List (Event Happened)) → IsLegal counted_meanings starts log → map (asked_by counted_meanings) log ≡ opening config → (k : ℕ) (event : Event Happened) → slice_get log k ≡ Some event
       → event_size event.happened ≤ 200
   small_event log legal all k event there =
       let next = legal k event there in
-      let asked : slice_get (opening config) k ≡ Some (asked_by node_meanings event) =
-      ap (λ (l : List (NodeId × Input)). slice_get l k) (sym all) ∙ (slice_get-map (asked_by node_meanings) log k ∙ ap (option_map (asked_by node_meanings)) there) in
-      let is = is_asked config k (asked_by node_meanings event) asked in
-      let now = state_after node_meanings next.0 (of_node event.node (take k log)) in
-      let same : now.config ≡ config = stays config kept starts first event.node next.0 next.1 (of_node event.node (take k log)) in
-      let orderers : now.config.orderers ≡ config.orderers = ap (λ (s : Shape). s.orderers) same in
+      let asked : slice_get (opening config) k ≡ Some (asked_by counted_meanings event) =
+      ap (λ (l : List (NodeId × Input)). slice_get l k) (sym all) ∙ (slice_get-map (asked_by counted_meanings) log k ∙ ap (option_map (asked_by counted_meanings)) there) in
+      let is = is_asked config k (asked_by counted_meanings event) asked in
+      let now = state_after counted_meanings next.0 (of_node event.node (take k log)) in
+      let same : now.node.config ≡ config = stays config kept starts first event.node next.0 next.1 (of_node event.node (take k log)) in
+      let orderers : now.node.config.orderers ≡ config.orderers = ap (λ (s : Shape). s.orderers) same in
       let few = range.orderers in
-      brief_row now.config now.number now.state event.happened (omega arith) (⊎_elim (λ (h : (event.node < nodes_of config) × (event.happened.input ≡ Restart)). inl h.1) (λ (h : (event.node ≡ orderer_node config 0) × (event.happened.input ≡ Lead)). inr h.1) is) next.2.row
+      brief_row now.node.config now.node.number now.node.state event.happened (omega arith) (⊎_elim (λ (h : (event.node < nodes_of config) × (event.happened.input ≡ Restart)). inl h.1) (λ (h : (event.node ≡ orderer_node config 0) × (event.happened.input ≡ Lead)). inr h.1) is) next.2.row
 
   -- and fits a frame
-  pub opening_fits : (log : List (Event Happened)) → IsLegal node_meanings starts log → map (asked_by node_meanings) log ≡ opening config → AllFit (owns_from 0 log)
+  pub opening_fits : (log : List (Event Happened)) → IsLegal counted_meanings starts log → map (asked_by counted_meanings) log ≡ opening config → AllFit (owns_from 0 log)
   opening_fits log legal all = owns_fit 0 log (λ k event there. brief_fits event.happened (small_event log legal all k event there))
 
   sizes_small : (log : List (Event Happened)) → ((k : ℕ) (event : Event Happened) → slice_get log k ≡ Some event → event_size event.happened ≤ 200)
-      → sizes_of_events node_meanings log ≤ 200 * length log
+      → sizes_of_events counted_meanings log ≤ 200 * length log
   sizes_small [] small = omega arith
   sizes_small (event ∷ log) small =
       let here = small zero event refl in let rest = sizes_small log (λ k e there. small (suc k) e there) in omega arith
 
-  pub has_room : HasRoomFor node_meanings starts (opening config) opening_room
+  pub has_room : HasRoomFor counted_meanings starts (opening config) opening_room
   has_room log all legal =
-      let size : length log ≡ nodes_of config + 1 = sym (length-map log (asked_by node_meanings)) ∙ (ap (length {A = NodeId × Input}) (sym all) ∙ length_opening config) in
+      let size : length log ≡ nodes_of config + 1 = sym (length-map log (asked_by counted_meanings)) ∙ (ap (length {A = NodeId × Input}) (sym all) ∙ length_opening config) in
       let few = (few_nodes config range).1 in
       let sizes = sizes_small log (small_event log legal (sym all)) in
       omega arith
@@ -173,11 +174,11 @@ owns_none run number place log none = record {
     silent place (event ∷ log) none zero own there = ap (λ (o : Own Happened). submitted o.happened.input) (sym (same_Some _ own there)) ∙ none zero event refl
     silent place (event ∷ log) none (suc k) own there = silent (suc place) log (λ j e at. none (suc j) e at) k own there
 
-pub opening_submits : (config : Shape) (run number : ℕ) (log : List (Event Happened)) → map (asked_by node_meanings) log ≡ opening config → SubmitsAlone run number (owns_from 0 log)
+pub opening_submits : (config : Shape) (run number : ℕ) (log : List (Event Happened)) → map (asked_by counted_meanings) log ≡ opening config → SubmitsAlone run number (owns_from 0 log)
 opening_submits config run number log all = owns_none run number 0 log (λ k event there.
-    let asked : slice_get (opening config) k ≡ Some (asked_by node_meanings event) =
-    ap (λ (l : List (NodeId × Input)). slice_get l k) (sym all) ∙ (slice_get-map (asked_by node_meanings) log k ∙ ap (option_map (asked_by node_meanings)) there) in
-    (quiet_asked config (asked_by node_meanings event) (is_asked config k (asked_by node_meanings event) asked)).1)
+    let asked : slice_get (opening config) k ≡ Some (asked_by counted_meanings event) =
+    ap (λ (l : List (NodeId × Input)). slice_get l k) (sym all) ∙ (slice_get-map (asked_by counted_meanings) log k ∙ ap (option_map (asked_by counted_meanings)) there) in
+    (quiet_asked config (asked_by counted_meanings event) (is_asked config k (asked_by counted_meanings event) asked)).1)
 
 -- the opening is within what each pass may use
 pub room_there : (passes : ℕ) → 0 < passes → passes ≤ 73 → opening_room ≤ 536870912 / passes
@@ -193,7 +194,7 @@ places_there config range passes n some few is =
     le-div n 131072 passes some fits
 
 -- where nothing was made an event the machines are as they were
-pub none_left : {A : Type 0} (state : A → ClusterNode) (machines : List A) (asked : List (NodeId × Input)) → AreLeft state node_meanings (map state machines) asked machines
+abbrev pub none_left : {A : Type 0} (state : A → ClusterNode) (machines : List A) (asked : List (NodeId × Input)) → AreLeft state node_meanings (map state machines) asked machines
 none_left state machines asked = record {
   log = [];
   rest = asked;

@@ -1,21 +1,18 @@
 -- A pass of a cluster stays one.
-use Rattle.std.proofs.Common.{◌≡◌, ℕ, List, Bool, true, false, None, sym, ap, ◌∙◌, subst}
+use Rattle.std.proofs.Common.{◌≡◌, ℕ, List, Bool, true, false, None, map, sym, ap, ◌∙◌, subst}
 use Rattle.atomic_table.specs.Seated.{TableId}
-use Rattle.atomic_table.specs.declared.shared.Seat.{Seat}
+use Rattle.counted_node.specs.Counted.{node_in}
 use Rattle.history_frame.specs.declared.events.Happened.{Happened}
 use Rattle.history_frame.specs.declared.inputs.Input.{Input}
 use Rattle.log_base.specs.ClusterShape.{Shape}
 use Rattle.log_base.specs.declared.machine.Committed.{Committed}
 use Rattle.node_model.specs.Legal.{submitted}
-use Rattle.node_model.specs.Machine.{ClusterNode}
 use Rattle.node_model.specs.NodeState.{KeptLists}
 use Rattle.reply_frame.specs.declared.replies.Reply.{Reply}
-use Rattle.tied_cells.specs.declared.board.Stored.{Stored}
-use Rattle.tied_cells.specs.declared.board.View.{View}
 use Rattle.tied_cells.specs.declared.mail.Fetched.{Fetched}
 use Rattle.tied_cells.specs.declared.mail.Fetched.TheVariants.{Letter as GotLetter, Empty}
 use Rattle.tied_cells.specs.Turns.{HoldsNothing}
-use Rattle.cluster.specs.Clusters.{AllFit, AreFirst, IsPassOf}
+use Rattle.cluster.specs.Clusters.{AllFit, AreFirst, IsPassOf, PassSeat}
 use Rattle.cluster.specs.Events.{Holder, IsBusy, IsEvent, IsGiven, IsIdle, IsSamePass, IsTurn, IsTurnInput, TakesUp}
 use Rattle.cluster.specs.Submitting.{MaySubmit, SubmitsAlone}
 use Rattle.cluster.proofs.Fitting.{fit_more}
@@ -30,12 +27,12 @@ pub turn_none : {A : Type 0} (down : Bool) (node : ℕ) (old new : Holder A) (in
 turn_none true node old new input h = ap submitted h.1
 turn_none false node old new input h = takes_none h.0 input h.2
 
-module _ {A : Type 0} (config : Shape) (run : ℕ) (kept : KeptLists) (table : TableId) (number : ℕ) (old new : Seat (Stored A Happened) (View ClusterNode Happened))
+module _ {A : Type 0} (config : Shape) (run : ℕ) (kept : KeptLists) (table : TableId) (number : ℕ) (old new : PassSeat A)
     (is : IsPassOf config run kept table number old) (same_table : new.table_id ≡ old.table_id) where
   stays_with : HoldsNothing new.me → IsSamePass old.me new.me → SubmitsAlone run number new.me.0.own → AllFit new.me.0.own → IsPassOf config run kept table number new
   stays_with free same submits fit = record {
     table_is = same_table ∙ is.table_is;
-    first = subst (AreFirst config kept) (λ i. (sym same i).deal.starts) is.first;
+    first = subst (AreFirst config kept) (λ i. map node_in (sym same i).deal.starts) is.first;
     number_is = (λ i. (same i).number) ∙ is.number_is;
     free = free;
     submits = submits;
@@ -48,7 +45,7 @@ module _ {A : Type 0} (config : Shape) (run : ℕ) (kept : KeptLists) (table : T
   pub pass_same : new.me ≡ old.me → IsPassOf config run kept table number new
   pass_same same = record {
     table_is = same_table ∙ is.table_is;
-    first = subst (AreFirst config kept) (λ i. (sym same i).0.deal.starts) is.first;
+    first = subst (AreFirst config kept) (λ i. map node_in (sym same i).0.deal.starts) is.first;
     free = subst HoldsNothing (sym same) is.free;
     number_is = (λ i. (same i).0.number) ∙ is.number_is;
     submits = subst (SubmitsAlone run number) (λ i. (sym same i).0.own) is.submits;
@@ -58,7 +55,7 @@ module _ {A : Type 0} (config : Shape) (run : ℕ) (kept : KeptLists) (table : T
   pub pass_busy : (node : ℕ) → IsBusy node old.me new.me → IsPassOf config run kept table number new
   pass_busy node busy = record {
     table_is = same_table ∙ is.table_is;
-    first = subst (AreFirst config kept) (λ i. (sym busy.2 i).0.deal.starts) is.first;
+    first = subst (AreFirst config kept) (λ i. map node_in (sym busy.2 i).0.deal.starts) is.first;
     free = ((λ i. (busy.2 i).0.turn) ∙ is.free.0, λ i. (busy.2 i).1);
     number_is = (λ i. (busy.2 i).0.number) ∙ is.number_is;
     submits = subst (SubmitsAlone run number) (λ i. (sym busy.2 i).0.own) is.submits;

@@ -4,6 +4,7 @@ use Rattle.std.proofs.lemmas.List.{at_drop_more}
 use Rattle.std.specs.List.{flat_map}
 use Rattle.log_base.specs.Outgoing.{letter_at}
 use Rattle.log_base.specs.Wide.{be2, be4, be8}
+use Rattle.counted_node.specs.Counted.{CountedState}
 use Rattle.history_frame.specs.declared.events.Happened.{Happened}
 use Rattle.history_frame.specs.declared.events.Sent.{Sent}
 use Rattle.history_frame.specs.declared.inputs.Input.{Input}
@@ -12,7 +13,7 @@ use Rattle.history_frame.specs.declared.inputs.Mark.TheVariants.{Done}
 use Rattle.history_frame.specs.Spelling.{IsHappened, IsInput, event_size, input_spelling, mark_byte, sent_spelling}
 use Rattle.history_frame.proofs.Sizes.{call_short}
 use Rattle.message_frame.specs.Spelling.{message_spelling}
-use Rattle.node_model.specs.Machine.{ClusterNode, posted}
+use Rattle.node_model.specs.Machine.{posted}
 use Rattle.record_frame.specs.declared.entries.Entry.{Entry}
 use Rattle.reply_frame.specs.declared.replies.Reply.{Reply, Found, Nothing, Stream'}
 use Rattle.reply_frame.specs.Replies.{IsReply, reply_bytes}
@@ -71,16 +72,16 @@ pub alone_is : (input : Input) → IsInput input → IsHappened (alone input)
 alone_is input is = record { input = is; few = omega arith; outputs = tt; reply = tt; size = omega (arith, alone_size input, input_short input is) }
 
 -- the parts of what a node did, and that it answers with no stream
-pub acts_single : (old new : ClusterNode) (input : Input) (happened : Happened) (letters : List (ℕ × List ℕ)) → Acts old new input happened letters → IsSingle happened.reply
-acts_single old new input happened letters acts = row_reply old.config old.number old.state happened acts.row
+pub acts_single : (old new : CountedState) (input : Input) (happened : Happened) (letters : List (ℕ × List ℕ)) → Acts old new input happened letters → IsSingle happened.reply
+acts_single old new input happened letters acts = row_reply old.node.config old.node.number old.node.state happened acts.row
 
-pub acts_parts : (old new : ClusterNode) (input : Input) (happened : Happened) (letters : List (ℕ × List ℕ)) → Acts old new input happened letters
+pub acts_parts : (old new : CountedState) (input : Input) (happened : Happened) (letters : List (ℕ × List ℕ)) → Acts old new input happened letters
     → event_size happened ≡ 9 + length (input_spelling input) + (letters_size letters + length (reply_bytes happened.reply))
 acts_parts old new input happened letters acts =
     let out : letters_size letters ≡ length (flat_map sent_spelling happened.outputs) = ap letters_size acts.letters_are ∙ letters_are happened.outputs in
     let front : length (input_spelling happened.input) ≡ length (input_spelling input) = ap (λ (x : Input). length (input_spelling x)) acts.input_is in
     let parts = event_parts happened in omega arith
 
-pub acts_small : (old new : ClusterNode) (input : Input) (happened : Happened) (letters : List (ℕ × List ℕ)) → Acts old new input happened letters
+pub acts_small : (old new : CountedState) (input : Input) (happened : Happened) (letters : List (ℕ × List ℕ)) → Acts old new input happened letters
     → 9 + length (input_spelling input) + (letters_size letters + length (reply_bytes happened.reply)) ≤ 2097152
 acts_small old new input happened letters acts = let parts = acts_parts old new input happened letters acts in let size : event_size happened ≤ 2097152 = acts.size in omega arith

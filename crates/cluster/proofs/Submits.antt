@@ -1,20 +1,17 @@
 -- What passes submit, each under its own number, agrees over the whole history.
 use Rattle.std.proofs.Common.{◌≡◌, ◌⊎◌, ℕ, ◌+◌, List, [], ◌∷◌, ◌++◌, slice_get, take, Some, None, eq-eqb, refl, sym, ap, ◌∙◌, subst, inl, inr}
 use Rattle.std.proofs.lemmas.Option.{none-some, same_Some}
-use Rattle.atomic_table.specs.declared.shared.Seat.{Seat}
 use Rattle.history_frame.specs.declared.events.Happened.{Happened}
 use Rattle.history_frame.specs.declared.inputs.Input.{Input}
 use Rattle.log_base.proofs.Legal.{at_push}
 use Rattle.node_model.specs.Legal.{IsOfRun, submitted}
-use Rattle.node_model.specs.Machine.{ClusterNode}
 use Rattle.record_frame.specs.declared.entries.Entry.{Entry as Record}
 use Rattle.tied_cells.specs.Closing.{AreAll}
 use Rattle.tied_cells.specs.History.{Entry, is_made_by, own_list, own_of}
 use Rattle.tied_cells.specs.declared.account.Account.{Account}
 use Rattle.tied_cells.specs.declared.board.Own.{Own}
-use Rattle.tied_cells.specs.declared.board.Stored.{Stored}
-use Rattle.tied_cells.specs.declared.board.View.{View}
 use Rattle.tied_cells.proofs.Picked.{stands_picked}
+use Rattle.cluster.specs.Clusters.{PassSeat}
 use Rattle.cluster.specs.Events.{own_event}
 use Rattle.cluster.specs.Submitting.{IsOfPass, MaySubmit, SubmitsAlone, SubmitsLike}
 
@@ -81,8 +78,8 @@ pub record AllAgree (run : ℕ) (log : List (Entry Happened)) : Type 0 where
   pub of_run : (k : ℕ) (entry : Entry Happened) → slice_get log k ≡ Some entry → IsOfRun run entry.event.happened.input
   pub agree : (k j : ℕ) (entry earlier : Entry Happened) → slice_get log k ≡ Some entry → slice_get log j ≡ Some earlier → Agree entry earlier
 
-module _ {A : Type 0} (run : ℕ) (passes : List (Seat (Stored A Happened) (View ClusterNode Happened) × Account)) (log : List (Entry Happened)) (all : AreAll passes log)
-    (alone : (k : ℕ) (pass : Seat (Stored A Happened) (View ClusterNode Happened) × Account) → slice_get passes k ≡ Some pass → SubmitsAlone run pass.1.number pass.0.me.0.own) where
+module _ {A : Type 0} (run : ℕ) (passes : List (PassSeat A × Account)) (log : List (Entry Happened)) (all : AreAll passes log)
+    (alone : (k : ℕ) (pass : PassSeat A × Account) → slice_get passes k ≡ Some pass → SubmitsAlone run pass.1.number pass.0.me.0.own) where
   -- an entry of the history is an event of a pass
   record IsOwn (place : ℕ) (entry : Entry Happened) : Type 0 where
     number : ℕ

@@ -3,6 +3,7 @@ use Rattle.std.specs.Prelude.{◌≡◌, ◌≢◌, ◌⊎◌, ℕ, ◌+◌, Lis
 use Rattle.answer_law.specs.Frames.{FitsFrame}
 use Rattle.atomic_table.specs.Table.{Me}
 use Rattle.core_step.specs.Known.{is_down}
+use Rattle.counted_node.specs.Counted.{CountedState, counted_meanings}
 use Rattle.history_frame.specs.declared.events.Happened.{Happened}
 use Rattle.history_frame.specs.declared.inputs.Call.{Call}
 use Rattle.history_frame.specs.declared.inputs.Input.{Input}
@@ -18,7 +19,6 @@ use Rattle.tied_cells.specs.declared.board.Cell.{Cell}
 use Rattle.tied_cells.specs.declared.board.Own.{Own}
 use Rattle.tied_cells.specs.declared.board.Stored.{Stored}
 use Rattle.tied_cells.specs.declared.board.Stored.TheVariants.{Nothing}
-use Rattle.tied_cells.specs.declared.board.View.{View}
 use Rattle.tied_cells.specs.declared.letter.Letter.{Letter}
 use Rattle.tied_cells.specs.declared.mail.Fetched.{Fetched}
 use Rattle.tied_cells.specs.declared.mail.Fetched.TheVariants.{Letter as GotLetter, Empty}
@@ -30,17 +30,18 @@ use Rattle.cluster.specs.declared.answering.Called.{Called}
 use Rattle.cluster.specs.declared.answering.Called.TheVariants.{Answered, Busy as CalledBusy, Spent as CalledSpent}
 use Rattle.cluster.specs.declared.answering.Turn.{Turn}
 use Rattle.cluster.specs.declared.answering.Turn.TheVariants.{Handled, Busy, Spent}
+use Rattle.cluster.specs.Clusters.{PassView}
 use Rattle.cluster.specs.Posting.{AllGoOut}
 
 -- what a pass of a cluster knows and has
 abbrev pub Holder : Type 0 → Type 0
-Holder A = Me (Stored A Happened) (View ClusterNode Happened)
+Holder A = Me (Stored A Happened) PassView
 
 abbrev pub own_event : ℕ → ℕ → Happened → Own Happened
 own_event place node happened = record { place = place; node = node; happened = happened }
 
 -- what a pass knows, but for what its work changes
-abbrev pub but_work : View ClusterNode Happened → View ClusterNode Happened → View ClusterNode Happened
+abbrev pub but_work : PassView → PassView → PassView
 but_work old new = record old {
   own = new.own;
   turn = new.turn;
@@ -66,12 +67,12 @@ module _ {A : Type 0} where
     pub same : IsSamePass old new
     pub own : new.0.own ≡ old.0.own ++ own_event place node happened ∷ []
     pub posted_are : new.0.posted ≡ old.0.posted
-    pub placed : IsPlaced node_meanings old.0.deal.starts (record { node = node; events = events }) place happened
+    pub placed : IsPlaced counted_meanings old.0.deal.starts (record { node = node; events = events }) place happened
 
 -- A pass has the turn at a node, with its cell, and the node stands after its events.
-pub record HeldAt {A : Type 0} (state : A → ClusterNode) (me : Holder A) (node : ℕ) (cell : Cell A Happened) : Type 0 where
+pub record HeldAt {A : Type 0} (state : A → CountedState) (me : Holder A) (node : ℕ) (cell : Cell A Happened) : Type 0 where
   pub turn : HasTurn me node cell
-  pub stands : StandsAfter state node_meanings me.0.deal.starts node cell.machine cell.events.items
+  pub stands : StandsAfter state counted_meanings me.0.deal.starts node cell.machine cell.events.items
 
 -- an input delivers a letter
 abbrev pub Delivers : Letter → Input → Type 0
@@ -85,15 +86,19 @@ TakesUp Empty input = input ≡ Tick
 -- the input of a turn at a node: it starts where it is down, and else a letter is fetched for it
 abbrev pub IsTurnInput : {A : Type 0} → Bool → ℕ → Holder A → Holder A → Input → Type 0
 IsTurnInput true node old new input = (new ≡ old) × (input ≡ Restart)
-IsTurnInput false node old new input = (fetched : Fetched) × Fetches node_meanings node old new fetched × TakesUp fetched input
+IsTurnInput false node old new input = (fetched : Fetched) × Fetches counted_meanings node old new fetched × TakesUp fetched input
+
+-- a node and its counts after its events
+abbrev pub counted_now : CountedState → List (Committed Happened) → CountedState
+counted_now start events = state_after counted_meanings start (map happened_of events)
 
 -- the node after its events
-abbrev pub node_now : ClusterNode → List (Committed Happened) → ClusterNode
-node_now start events = state_after node_meanings start (map happened_of events)
+abbrev pub node_now : CountedState → List (Committed Happened) → ClusterNode
+node_now start events = (counted_now start events).node
 
 -- an input fits a node, whatever its events were
-abbrev pub FitsAlways : List ClusterNode → ℕ → Input → Type 0
-FitsAlways starts node input = (start : ClusterNode) → slice_get starts node ≡ Some start → (events : List (Committed Happened)) → node_meanings.fits (node_now start events) input
+abbrev pub FitsAlways : List CountedState → ℕ → Input → Type 0
+FitsAlways starts node input = (start : CountedState) → slice_get starts node ≡ Some start → (events : List (Committed Happened)) → node_meanings.fits (node_now start events) input
 
 module _ {A : Type 0} where
   -- An event under a turn that the pass has: a turn's, with its letters.
@@ -102,7 +107,7 @@ module _ {A : Type 0} where
     pub commits : Commits held new node place events happened
     pub letters_are : letters ≡ map posted happened.outputs
     pub fits_frame : FitsFrame happened
-    pub start : ClusterNode
+    pub start : CountedState
     pub starts_so : slice_get held.0.deal.starts node ≡ Some start
     pub taken : Holder A
     pub input : IsTurnInput (is_down (node_now start events).state) node held taken happened.input
@@ -123,7 +128,7 @@ module _ {A : Type 0} where
   pub record IsEvent (nodes : ℕ) (old new : Holder A) (node place lost : ℕ) (events : List (Committed Happened)) (happened : Happened) : Type 0 where
     pub same : IsSamePass old new
     pub own : new.0.own ≡ old.0.own ++ own_event place node happened ∷ []
-    pub placed : IsPlaced node_meanings old.0.deal.starts (record { node = node; events = events }) place happened
+    pub placed : IsPlaced counted_meanings old.0.deal.starts (record { node = node; events = events }) place happened
     pub fits_frame : FitsFrame happened
     pub free : HoldsNothing new
     pub committed : Holder A
@@ -134,7 +139,7 @@ module _ {A : Type 0} where
   pub record IsTurn (nodes : ℕ) (old held new : Holder A) (node place lost : ℕ) (events : List (Committed Happened)) : Type 0 where
     pub happened : Happened
     pub event : IsEvent nodes old new node place lost events happened
-    pub start : ClusterNode
+    pub start : CountedState
     pub starts_so : slice_get old.0.deal.starts node ≡ Some start
     pub taken : Holder A
     pub input : IsTurnInput (is_down (node_now start events).state) node held taken happened.input

@@ -1,6 +1,5 @@
 -- The history of a cluster that is closed, and where its nodes stand.
 use Rattle.std.specs.Prelude.{◌≡◌, ℕ, suc, ◌<◌, List, [], ◌∷◌, length, slice_get, Some}
-use Rattle.atomic_table.specs.declared.shared.Seat.{Seat}
 use Rattle.history_frame.specs.declared.events.Event.{Event}
 use Rattle.history_frame.specs.declared.events.Happened.{Happened}
 use Rattle.history_frame.specs.declared.events.History.{History}
@@ -16,8 +15,7 @@ use Rattle.tied_cells.specs.Closing.{OwnRises}
 use Rattle.tied_cells.specs.History.{Entry}
 use Rattle.tied_cells.specs.declared.account.Account.{Account}
 use Rattle.tied_cells.specs.declared.board.Own.{Own}
-use Rattle.tied_cells.specs.declared.board.Stored.{Stored}
-use Rattle.tied_cells.specs.declared.board.View.{View}
+use Rattle.cluster.specs.Clusters.{PassSeat}
 
 -- what happened at a node, as the event at a place
 abbrev pub event_at : ℕ → Entry Happened → Event
@@ -34,9 +32,9 @@ as_event own = record { place = own.place; node = record { 0 = own.node }; happe
 
 module _ {A : Type 0} where
   -- an event is one of a pass among these
-  pub record IsOneOf (passes : List (Seat (Stored A Happened) (View ClusterNode Happened) × Account)) (event : Event) : Type 0 where
+  pub record IsOneOf (passes : List (PassSeat A × Account)) (event : Event) : Type 0 where
     pub k : ℕ
-    pub pass : Seat (Stored A Happened) (View ClusterNode Happened) × Account
+    pub pass : PassSeat A × Account
     pub there : slice_get passes k ≡ Some pass
     pub j : ℕ
     pub own : Own Happened
@@ -45,10 +43,10 @@ module _ {A : Type 0} where
 
   -- The events of the passes are the history: those of each stand there at their places, which rise, and each event there is
   -- one of theirs.
-  pub record AreAllEvents (passes : List (Seat (Stored A Happened) (View ClusterNode Happened) × Account)) (events : List Event) : Type 0 where
-    pub each : (k : ℕ) (pass : Seat (Stored A Happened) (View ClusterNode Happened) × Account) → slice_get passes k ≡ Some pass
+  pub record AreAllEvents (passes : List (PassSeat A × Account)) (events : List Event) : Type 0 where
+    pub each : (k : ℕ) (pass : PassSeat A × Account) → slice_get passes k ≡ Some pass
         → (j : ℕ) (own : Own Happened) → slice_get pass.0.me.0.own j ≡ Some own → slice_get events own.place ≡ Some (as_event own)
-    pub rise : (k : ℕ) (pass : Seat (Stored A Happened) (View ClusterNode Happened) × Account) → slice_get passes k ≡ Some pass → OwnRises pass.0.me.0.own
+    pub rise : (k : ℕ) (pass : PassSeat A × Account) → slice_get passes k ≡ Some pass → OwnRises pass.0.me.0.own
     pub all : (place : ℕ) (event : Event) → slice_get events place ≡ Some event → IsOneOf passes event
 
 -- the nodes of a cluster stand after the events of its history
@@ -59,7 +57,7 @@ pub record StandAfter (config : Shape) (kept : KeptLists) (events : List Event) 
 
 -- What a closed cluster leaves: a legal history of its run, which has the events of its passes and no others, and its nodes as
 -- they stand after it.
-pub record IsClosed {A : Type 0} (config : Shape) (run : ℕ) (kept : List Kept) (passes : List (Seat (Stored A Happened) (View ClusterNode Happened) × Account))
+pub record IsClosed {A : Type 0} (config : Shape) (run : ℕ) (kept : List Kept) (passes : List (PassSeat A × Account))
     (nodes : List ClusterNode) (history : History) : Type 0 where
   pub config_is : shape history.config ≡ config
   pub run_is : history.run ≡ run

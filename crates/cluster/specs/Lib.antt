@@ -1,5 +1,6 @@
 pub mod Accounting
 pub mod Clusters
+pub mod Counting
 pub mod Events
 pub mod History
 pub mod Opening

@@ -1,13 +1,13 @@
 //! Calls of a node, and orders to lead.
 
 ghost use Rattle.std.specs.Prelude.{◌≡◌, ◌<◌, ◌≤◌, length, IfOk, OnErr};
-ghost use Rattle.core_step.specs.Standing.{cluster_node};
+ghost use Rattle.counted_node.specs.Counted.{counted_meanings, counted_node};
 ghost use Rattle.history_frame.specs.declared.inputs.Input.TheVariants.{Call as ACall};
 ghost use Rattle.history_frame.specs.Spelling.{IsInput as IsSpelledInput};
 ghost use Rattle.log_base.specs.Machines.{state_after};
 ghost use Rattle.log_base.specs.Shape.{shape};
 ghost use Rattle.node_model.specs.Fits.{IsInput};
-ghost use Rattle.node_model.specs.Machine.{delivery, node_meanings};
+ghost use Rattle.node_model.specs.Machine.{delivery};
 ghost use Rattle.node_model.specs.Sound.{payloads_on};
 ghost use Rattle.node_table.specs.Numbering.{nodes_of, orderer_node, role_at};
 ghost use Rattle.tied_cells.specs.Turns.{HasLeft, HoldsNothing};
@@ -20,7 +20,7 @@ use crate::answering::{Called, Turn};
 use crate::cluster::{Cluster, Pass};
 use crate::replying::copy_reply;
 use crate::stepping::act;
-use core_step::Node;
+use counted_node::CountedNode;
 use cut_chain::Places;
 use history_frame::{Call, Input};
 use log_base::{Memory, NodeId, Outbox};
@@ -35,24 +35,24 @@ const LARGEST_REPLY: usize = 2_097_152;
 
 /// An event of a node under its turn, with the node's reply. Its letters lie in the outbox.
 fn give_under<J: Journal + Drop, P: Places>(
-    cells: &Cells<Node<J, P>>,
+    cells: &Cells<CountedNode<J, P>>,
     alloc: Global,
     pass: &mut Pass<J, P>,
     node: NodeId,
-    held: &mut Held<Node<J, P>>,
+    held: &mut Held<CountedNode<J, P>>,
     input: Input,
     out: &mut Outbox,
 ) -> Result<(u32, Reply), Memory>
     requires table { pass.old.seat.table_id ≡ cells.now.table.shared.table_id }
     requires node { (node.0 < cells.now.nodes) × (held.old.node ≡ node) }
-    requires held { HeldAt (cluster_node J.state) pass.old.seat.me node.0 held.old.cell }
+    requires held { HeldAt (counted_node J.state) pass.old.seat.me node.0 held.old.cell }
     requires left { HasLeft pass.old.account }
     requires fits { FitsAlways pass.old.seat.me.0.deal.starts node.0 input }
     requires spelled { IsSpelledInput input }
     requires quiet { delivery input ≡ None }
     ensures table { pass.new.seat.table_id ≡ pass.old.seat.table_id }
     ensures node { held.new.node ≡ node }
-    ensures held { HeldAt (cluster_node J.state) pass.new.seat.me node.0 held.new.cell }
+    ensures held { HeldAt (counted_node J.state) pass.new.seat.me node.0 held.new.cell }
     ensures ok { IfOk result (λ made. GivenUnder pass.old.seat.me pass.new.seat.me node.0 made.0 held.old.cell.events.items out.new.letters input made.1) }
     ensures err { OnErr result (pass.new.seat.me ≡ pass.old.seat.me) }
     ensures charged { IfOk result (λ made. IsCharged pass.old.account pass.new.account pass.old.seat.me.0.own pass.new.seat.me.0.own) }
@@ -138,12 +138,12 @@ impl<J: Journal + Drop, P: Places> Cluster<J, P> {
         &self,
         pass: &mut Pass<J, P>,
         node: NodeId,
-        held: Held<Node<J, P>>,
+        held: Held<CountedNode<J, P>>,
         input: Input,
     ) -> Result<Given, Memory>
         requires table { pass.old.seat.table_id ≡ self.now.cells.table.shared.table_id }
         requires node { (node.0 < nodes_of (shape self.now.config)) × (held.node ≡ node) }
-        requires held { HeldAt (cluster_node J.state) pass.old.seat.me node.0 held.cell }
+        requires held { HeldAt (counted_node J.state) pass.old.seat.me node.0 held.cell }
         requires left { HasLeft pass.old.account }
         requires fits { FitsAlways pass.old.seat.me.0.deal.starts node.0 input }
         requires spelled { IsSpelledInput input }

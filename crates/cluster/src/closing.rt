@@ -3,6 +3,8 @@
 ghost use Rattle.std.specs.Prelude.{◌≡◌, ◌<◌, ◌≤◌, [], ℕ, length, map, slice_get, Some, IfOk, IfErr, vec_capacity};
 ghost use Rattle.std.specs.List.{AllByRecursion};
 ghost use Rattle.core_step.specs.Standing.{cluster_node};
+ghost use Rattle.counted_node.specs.Causes.{BeginWithStarts, HaveCauses, StartsAreClean, node_media};
+ghost use Rattle.counted_node.specs.Counted.{counted_meanings, counted_node, first_in, node_in};
 ghost use Rattle.history_frame.specs.Merging.{IsComplete, IsMerged, events_from};
 ghost use Rattle.history_frame.specs.Spelling.{DisksRise, IsHistory, IsKept};
 ghost use Rattle.log_base.specs.Shape.{shape};
@@ -10,14 +12,17 @@ ghost use Rattle.node_model.specs.Durable.{IsFounded};
 ghost use Rattle.node_model.specs.Sound.{payloads_on};
 ghost use Rattle.sequence_law.specs.Safe.{IsSafe};
 ghost use Rattle.tied_cells.specs.Rule.{deal_of};
+ghost use Rattle.tied_cells.specs.Sizes.{sizes_of};
 ghost use Rattle.cluster.specs.Clusters.{IsBegun, IsPassOf};
 ghost use Rattle.cluster.specs.History.{IsClosed};
 
 use crate::cluster::{Cluster, Pass};
+use crate::counts::take_nodes;
 use core_step::{Node, founded_histories_are_safe};
 use cut_chain::Places;
 use history_frame::{Event, Happened, History, Kept, merge};
 use log_base::{Committed, Config, List, Memory};
+use node_table::nodes;
 use segment_journal::Journal;
 use tied_cells::Closed;
 
@@ -57,16 +62,24 @@ impl<J: Journal + Drop, P: Places> Cluster<J, P> {
         self,
         passes: Vec<Pass<J, P>>,
     ) -> Result<(History, Vec<Node<J, P>>), (Memory, Cluster<J, P>, Vec<Pass<J, P>>)>
-        requires begun { IsBegun (shape self.config) self.run (payloads_on self.kept) (deal_of (cluster_node J.state) self.cells.table.shared.key).starts }
+        requires begun { IsBegun (shape self.config) self.run (payloads_on self.kept) (map node_in (deal_of (counted_node J.state) self.cells.table.shared.key).starts) }
         requires all { (number : ℕ) → number < self.cells.table.shared.key.passes → (k : ℕ) × (pass : _) × (slice_get passes.items k ≡ Some pass) × (pass.account.number ≡ number) }
         requires passes { (k : ℕ) (pass : _) → slice_get passes.items k ≡ Some pass → IsPassOf (shape self.config) self.run (payloads_on self.kept) self.cells.table.shared.table_id pass.account.number pass.seat }
         ensures closed { IfOk result (λ left. IsClosed (shape self.config) self.run self.kept (map (λ p. (p.seat, p.account)) passes.items) (map (cluster_node J.state) left.1.items) left.0) }
         ensures safe { IfOk result (λ left. IsFounded (shape self.config) self.run (payloads_on self.kept) → IsSafe (shape self.config) (payloads_on self.kept) left.0.events) }
         ensures spelled { IfOk result (λ left. DisksRise 0 self.kept → AllByRecursion IsKept self.kept → IsHistory left.0) }
+        ensures causes { IfOk result (λ left. HaveCauses (shape self.config) left.0.events (map first_in (deal_of (counted_node J.state) self.cells.table.shared.key).starts)
+            (map (node_media J.state J.faults J.keeps_synced J.turns) left.1.items)) }
+        ensures opened { IfOk result (λ left. BeginWithStarts (shape self.config) left.0.events → StartsAreClean (shape self.config) left.0.events
+            (map first_in (deal_of (counted_node J.state) self.cells.table.shared.key).starts) (map (node_media J.state J.faults J.keeps_synced J.turns) left.1.items)) }
+        ensures counted { (k : ℕ) (pass : _) → slice_get passes.items k ≡ Some pass → (length pass.seat.me.0.own ≡ pass.account.used) × (sizes_of counted_meanings pass.seat.me.0.own ≤ pass.account.bytes) }
         ensures err { IfErr result (λ r. (r.1.cells ≡ self.cells) × (r.1.config ≡ self.config) × (r.1.run ≡ self.run) × (r.1.kept ≡ self.kept) × (r.2.items ≡ passes.items)) }
     {
         founded_histories_are_safe();
         let Ok(room) = Vec::with_capacity(self.alloc, EVENTS) else {
+            return Err((Memory, self, passes));
+        };
+        let Ok(back) = Vec::with_capacity(self.alloc, nodes(&self.config) as usize) else {
             return Err((Memory, self, passes));
         };
         let Cluster {
@@ -78,8 +91,13 @@ impl<J: Journal + Drop, P: Places> Cluster<J, P> {
         } = self;
         match cells.close(passes) {
             Ok(closed) => {
-                let Closed { machines, events } = closed;
-                return Ok((history_of(config, run, kept, events, room), machines));
+                let Closed {
+                    mut machines,
+                    events,
+                } = closed;
+                let mut back = back;
+                take_nodes(&mut machines, &mut back);
+                return Ok((history_of(config, run, kept, events, room), back));
             }
             Err((memory, cells, passes)) => {
                 let cluster = Cluster {

@@ -6,6 +6,7 @@ mod answering;
 mod calling;
 mod closing;
 mod cluster;
+mod counts;
 mod finishing;
 mod parts;
 mod posting;

@@ -3,6 +3,7 @@
 ghost use Rattle.std.specs.Prelude.{◌≡◌, ◌<◌, ◌≤◌, ℕ, [], length, map, slice_get, Some, IfOk};
 ghost use Rattle.core_step.specs.Standing.{cluster_node};
 ghost use Rattle.core_step.specs.Starting.{IsOrderer, IsStorage};
+ghost use Rattle.counted_node.specs.Counted.{counted_node, node_in};
 ghost use Rattle.log_base.specs.Shape.{shape};
 ghost use Rattle.node_model.specs.Sound.{payloads_on};
 ghost use Rattle.node_table.specs.Numbering.{nodes_of, role_at};
@@ -111,7 +112,7 @@ fn small() -> Result<Config, Fail>
 // A cluster that has just begun, and its two passes.
 fn start(alloc: Global) -> Result<(Trio, Vec<Pass<OnDisk, WalkPlaces>>), Fail>
     ensures config { IfOk result (λ made. shape made.0.config ≡ trio) }
-    ensures begun { IfOk result (λ made. IsBegun (shape made.0.config) made.0.run (payloads_on made.0.kept) (deal_of (cluster_node (λ j. j.journal)) made.0.cells.table.shared.key).starts) }
+    ensures begun { IfOk result (λ made. IsBegun (shape made.0.config) made.0.run (payloads_on made.0.kept) (map node_in (deal_of (counted_node (λ j. j.journal)) made.0.cells.table.shared.key).starts)) }
     ensures count { IfOk result (λ made. length made.1.items ≡ made.0.cells.table.shared.key.passes) }
     ensures passes { IfOk result (λ made. (k : ℕ) (pass : _) → slice_get made.1.items k ≡ Some pass
         → IsPassOf (shape made.0.config) made.0.run (payloads_on made.0.kept) made.0.cells.table.shared.table_id k pass.seat) }

@@ -3,10 +3,10 @@
 
 ghost use Rattle.std.specs.Prelude.{◌≡◌, ◌<◌, ◌≤◌, length, map, Some, IfOk, OnErr};
 ghost use Rattle.core_step.specs.Known.{is_down};
-ghost use Rattle.core_step.specs.Standing.{cluster_node};
+ghost use Rattle.counted_node.specs.Counted.{counted_meanings, counted_node};
 ghost use Rattle.history_frame.specs.declared.events.Happened.{Happened as Made};
 ghost use Rattle.log_base.specs.Shape.{shape};
-ghost use Rattle.node_model.specs.Machine.{ClusterNode, node_meanings, posted};
+ghost use Rattle.node_model.specs.Machine.{ClusterNode, posted};
 ghost use Rattle.node_model.specs.Sound.{payloads_on};
 ghost use Rattle.node_table.specs.Numbering.{nodes_of};
 ghost use Rattle.tied_cells.specs.Rule.{deal_of};
@@ -21,7 +21,7 @@ ghost use Rattle.cluster.specs.Events.{AnswersTurn, Delivers, HeldAt, IsIdle, Is
 use crate::answering::Turn;
 use crate::cluster::{Cluster, Pass};
 use crate::stepping::act;
-use core_step::Node;
+use counted_node::CountedNode;
 use cut_chain::Places;
 use history_frame::Input;
 use log_base::{Memory, NodeId, Outbox};
@@ -51,7 +51,7 @@ fn read(alloc: Global, letter: Letter) -> Result<Input, Memory>
 
 /// What a node takes in its turn. A letter that was fetched is lost where there is no memory for it.
 fn choose<J: Journal + Drop, P: Places>(
-    cells: &Cells<Node<J, P>>,
+    cells: &Cells<CountedNode<J, P>>,
     alloc: Global,
     pass: &mut Pass<J, P>,
     node: NodeId,
@@ -60,7 +60,7 @@ fn choose<J: Journal + Drop, P: Places>(
     requires table { pass.old.seat.table_id ≡ cells.now.table.shared.table_id }
     requires node { node.0 < cells.now.nodes }
     ensures chosen { IfOk result (λ input. IsTurnInput down node.0 pass.old.seat.me pass.new.seat.me input) }
-    ensures lost { OnErr result ((letter : Mail) × Fetches node_meanings node.0 pass.old.seat.me pass.new.seat.me (GotLetter letter)) }
+    ensures lost { OnErr result ((letter : Mail) × Fetches counted_meanings node.0 pass.old.seat.me pass.new.seat.me (GotLetter letter)) }
     ensures same { (pass.new.seat.table_id ≡ pass.old.seat.table_id) × (pass.new.account ≡ pass.old.account) }
 {
     if down {
@@ -74,20 +74,20 @@ fn choose<J: Journal + Drop, P: Places>(
 
 /// An event of a node under its turn. Its letters lie in the outbox.
 fn turn_under<J: Journal + Drop, P: Places>(
-    cells: &Cells<Node<J, P>>,
+    cells: &Cells<CountedNode<J, P>>,
     alloc: Global,
     pass: &mut Pass<J, P>,
     node: NodeId,
-    held: &mut Held<Node<J, P>>,
+    held: &mut Held<CountedNode<J, P>>,
     out: &mut Outbox,
 ) -> Result<u32, Memory>
     requires table { pass.old.seat.table_id ≡ cells.now.table.shared.table_id }
     requires node { (node.0 < cells.now.nodes) × (held.old.node ≡ node) }
-    requires held { HeldAt (cluster_node J.state) pass.old.seat.me node.0 held.old.cell }
+    requires held { HeldAt (counted_node J.state) pass.old.seat.me node.0 held.old.cell }
     requires left { HasLeft pass.old.account }
     ensures table { pass.new.seat.table_id ≡ pass.old.seat.table_id }
     ensures node { held.new.node ≡ node }
-    ensures held { HeldAt (cluster_node J.state) pass.new.seat.me node.0 held.new.cell }
+    ensures held { HeldAt (counted_node J.state) pass.new.seat.me node.0 held.new.cell }
     ensures ok { IfOk result (λ place. TurnsUnder pass.old.seat.me pass.new.seat.me node.0 place held.old.cell.events.items out.new.letters) }
     ensures err { OnErr result (IsIdle pass.old.seat.me pass.new.seat.me) }
     ensures charged { IfOk result (λ place. IsCharged pass.old.account pass.new.account pass.old.seat.me.0.own pass.new.seat.me.0.own) }
@@ -131,11 +131,11 @@ impl<J: Journal + Drop, P: Places> Cluster<J, P> {
         &self,
         pass: &mut Pass<J, P>,
         node: NodeId,
-        held: Held<Node<J, P>>,
+        held: Held<CountedNode<J, P>>,
     ) -> Result<(u32, u8), Memory>
         requires table { pass.old.seat.table_id ≡ self.now.cells.table.shared.table_id }
         requires node { (node.0 < nodes_of (shape self.now.config)) × (held.node ≡ node) }
-        requires held { HeldAt (cluster_node J.state) pass.old.seat.me node.0 held.cell }
+        requires held { HeldAt (counted_node J.state) pass.old.seat.me node.0 held.cell }
         requires left { HasLeft pass.old.account }
         ensures same { pass.new.seat.table_id ≡ pass.old.seat.table_id }
         ensures free { HoldsNothing pass.new.seat.me }

@@ -4,13 +4,13 @@ use Rattle.cluster.specs.Events.{AnswersCall, AnswersLead, AnswersTurn, Holder, 
 use Rattle.cluster.specs.declared.answering.Called.{Called}
 use Rattle.cluster.specs.declared.answering.Called.TheVariants.{Answered as CalledAnswered, Spent as CalledSpent}
 use Rattle.cluster.specs.declared.answering.Turn.TheVariants.{Handled, Spent as TurnSpent}
+use Rattle.counted_node.specs.Counted.{counted_meanings}
 use Rattle.history_frame.specs.declared.events.Happened.{Happened}
 use Rattle.history_frame.specs.declared.inputs.Call.{Call}
 use Rattle.history_frame.specs.declared.inputs.Input.{Input}
 use Rattle.history_frame.specs.declared.inputs.Input.TheVariants.{Call as ACall, Lead}
 use Rattle.log_base.proofs.Legal.{legal_last}
 use Rattle.log_base.specs.declared.machine.Committed.{Committed}
-use Rattle.node_model.specs.Machine.{node_meanings}
 use Rattle.reply_frame.specs.declared.replies.Reply.{Reply}
 use Rattle.schedule_model.specs.Streams.{IsSingle}
 use Rattle.schedule_model.proofs.Singles.{row_reply}
@@ -40,7 +40,7 @@ busy_own node old new busy i = (busy.2 i).0.own
 event_single : {A : Type 0} (nodes node place lost : ℕ) (es : List (Committed Happened)) (old new : Holder A) (happened : Happened)
     → IsEvent nodes old new node place lost es happened → IsSingle happened.reply
 event_single nodes node place lost es old new happened event =
-    let next = legal_last node_meanings old.0.deal.starts event.placed.before (record { node = node; happened = happened }) event.placed.legal in
+    let next = legal_last counted_meanings old.0.deal.starts event.placed.before (record { node = node; happened = happened }) event.placed.legal in
     row_reply _ _ _ happened next.2.row
 
 -- a try behind tries in vain, which changed neither the pass's events nor its account

@@ -1,21 +1,17 @@
 -- What a lane makes of its pass, and with which pass it may begin.
 use Rattle.std.specs.Prelude.{◌≡◌, ℕ, List, ◌++◌, slice_get, Some, None, Result, Ok, Err}
 use Rattle.atomic_table.specs.Seated.{TableId}
-use Rattle.atomic_table.specs.declared.shared.Seat.{Seat}
 use Rattle.client_session.specs.Sessions.{fresh}
-use Rattle.cluster.specs.Clusters.{IsPassOf}
+use Rattle.cluster.specs.Clusters.{IsPassOf, PassSeat}
 use Rattle.command_frame.specs.declared.items.Item.{Item}
 use Rattle.history_frame.specs.declared.events.Happened.{Happened}
 use Rattle.log_base.specs.ClusterShape.{Shape}
 use Rattle.log_base.specs.declared.outside.Memory.{Memory}
 use Rattle.node_model.specs.Legal.{submitted}
-use Rattle.node_model.specs.Machine.{ClusterNode}
 use Rattle.node_model.specs.NodeState.{KeptLists}
 use Rattle.reply_frame.specs.declared.replies.Reply.{Reply}
 use Rattle.tied_cells.specs.declared.account.Account.{Account}
 use Rattle.tied_cells.specs.declared.board.Own.{Own}
-use Rattle.tied_cells.specs.declared.board.Stored.{Stored}
-use Rattle.tied_cells.specs.declared.board.View.{View}
 use Rattle.lane_work.specs.Items.{ItemsGo, items_of}
 
 -- a pass has submitted nothing
@@ -35,11 +31,11 @@ Answers config run lane items account before after (Err memory) = GoOnFrom befor
 
 module _ {A : Type 0} (config : Shape) (run : ℕ) (kept : KeptLists) (table : TableId) where
   -- a pass fits a lane: it has the lane's number, and submitted nothing
-  pub record FitsLane (lane : ℕ) (seat : Seat (Stored A Happened) (View ClusterNode Happened)) : Type 0 where
+  pub record FitsLane (lane : ℕ) (seat : PassSeat A) : Type 0 where
     pub pass : IsPassOf config run kept table lane seat
     pub fresh_pass : SubmitsNone seat.me.0.own
 
   -- what a lane makes of its pass: the pass stays one of the cluster's, with its number, and the items go
-  pub record LaneGoes (lane : ℕ) (items : List Item) (old new : Seat (Stored A Happened) (View ClusterNode Happened)) (account : Account) (answers : Result (List Reply) Memory) : Type 0 where
+  pub record LaneGoes (lane : ℕ) (items : List Item) (old new : PassSeat A) (account : Account) (answers : Result (List Reply) Memory) : Type 0 where
     pub pass : IsPassOf config run kept table lane new
     pub went : Answers config run lane items account old.me.0.own new.me.0.own answers

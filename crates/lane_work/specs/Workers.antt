@@ -1,18 +1,14 @@
 -- What a worker makes of its pass.
 use Rattle.std.specs.Prelude.{◌≡◌, ℕ, ◌*◌, ◌%◌, ◌<◌, ◌≤◌, List, ◌++◌, length, slice_get, Some, Result, Ok, Err}
 use Rattle.atomic_table.specs.Seated.{TableId}
-use Rattle.atomic_table.specs.declared.shared.Seat.{Seat}
-use Rattle.cluster.specs.Clusters.{IsPassOf}
+use Rattle.cluster.specs.Clusters.{IsPassOf, PassSeat}
 use Rattle.history_frame.specs.declared.events.Happened.{Happened}
 use Rattle.log_base.specs.ClusterShape.{Shape}
 use Rattle.log_base.specs.declared.outside.Memory.{Memory}
-use Rattle.node_model.specs.Machine.{ClusterNode}
 use Rattle.node_model.specs.NodeState.{KeptLists}
 use Rattle.node_table.specs.Numbering.{nodes_of}
 use Rattle.tied_cells.specs.declared.account.Account.{Account}
 use Rattle.tied_cells.specs.declared.board.Own.{Own}
-use Rattle.tied_cells.specs.declared.board.Stored.{Stored}
-use Rattle.tied_cells.specs.declared.board.View.{View}
 use Rattle.tied_cells.specs.Turns.{IsSpent}
 use Rattle.lane_work.specs.Stages.{IsTurnAt}
 
@@ -39,6 +35,6 @@ pub record WorkerTurns (nodes : ℕ) (account : Account) (before after : List (O
 
 -- what a worker makes of its pass: the pass stays one of the cluster's, with its number, and its events are turns
 pub record WorkerGoes {A : Type 0} (config : Shape) (run : ℕ) (kept : KeptLists) (table : TableId) (number : ℕ)
-    (old new : Seat (Stored A Happened) (View ClusterNode Happened)) (account : Account) (answer : Result (Unit {0}) Memory) : Type 0 where
+    (old new : PassSeat A) (account : Account) (answer : Result (Unit {0}) Memory) : Type 0 where
   pub pass : IsPassOf config run kept table number new
   pub went : WorkerTurns (nodes_of config) account old.me.0.own new.me.0.own answer

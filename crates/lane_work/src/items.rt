@@ -22,7 +22,7 @@ use segment_journal::Journal;
 use std::sync::Wait;
 
 /// The lane of an item.
-pub(crate) fn lane_of(item: &Item) -> u8
+pub fn lane_of(item: &Item) -> u8
     ensures { result ≡ lane_of item.now }
 {
     match item {

@@ -13,6 +13,7 @@ mod stages;
 mod turning;
 mod work;
 
+pub use items::lane_of;
 pub use stages::{Asking, Due, Stage};
 pub use work::LaneWork;
 

@@ -1,5 +1,5 @@
 -- One event of a node: what its mark comes from, by what its journals told before it, once it was ready, and after it.
-use Rattle.std.proofs.Common.{◌≡◌, ◌≢◌, ◌<◌, ℕ, List, [], length, get_or, map, slice_get, Bool, Option, Some, sym, ap, subst, inl, inr, arith, ◌∙◌}
+use Rattle.std.proofs.Common.{◌≡◌, ◌≢◌, ◌<◌, ℕ, List, [], length, get_or, map, slice_get, Option, Some, sym, ap, subst, inl, inr, arith, ◌∙◌}
 use Rattle.std.specs.Prelude.{Result, Ok, Err, IfOk}
 use Rattle.std.proofs.Math.ListN.{set}
 use Rattle.std.proofs.lemmas.Bool.{cases_eq}
@@ -11,22 +11,12 @@ use Rattle.history_frame.specs.declared.inputs.Input.TheVariants.{Restart}
 use Rattle.history_frame.specs.declared.inputs.Mark.{Mark}
 use Rattle.history_frame.specs.declared.inputs.Mark.TheVariants.{Halted, StayedDown}
 use Rattle.node_model.specs.Machine.{ClusterNode}
-use Rattle.segment_journal.specs.Journalled.{Journalled, Turns}
-use Rattle.shard_replica.specs.Lists.{Medium, medium_of}
-use Rattle.shard_replica.specs.Telling.{AreTold}
+use Rattle.shard_replica.specs.Lists.{Medium}
 use Rattle.storage_node.specs.Counting.{CountsOn}
 use Rattle.storage_node.specs.Opening.{RoseIn}
-use Rattle.quiet_run.specs.Causes.{AllCountOn, HasCause, journals_at, media_at}
+use Rattle.counted_node.specs.Causes.{AllCountOn, HasCause, journals_at, media_at}
 use Rattle.quiet_run.specs.Turns.{ShowsMark}
-use Rattle.quiet_run.proofs.Rises.{counts_same, counts_then, keeps_all, one_rose_earlier, rose_below, rose_in_later}
-
--- as many journals are told as tell
-pub told_all : {J : Type 0} (state : J → Journalled) (faults : J → ℕ) (keeps_synced : J → Bool) (turns : J → Option Turns) (count : ℕ) (media : List Medium)
-    → AreTold state faults keeps_synced turns count media → length media ≡ count
-told_all state faults keeps_synced turns count media told =
-    ap (λ (l : List Medium). length l) told.media_are
-    ∙ length-map told.journals (λ j. medium_of (state j) (faults j) (keeps_synced j) (turns j))
-    ∙ told.all
+use Rattle.counted_node.proofs.Rises.{counts_same, counts_then, keeps_all, one_rose_earlier, rose_below, rose_in_later}
 
 module _ (count : ℕ) (old between new : List Medium) (all : length old ≡ count) (still : length new ≡ count) (readied : CountsOn old between) (stepped : CountsOn between new) where
   pub cause_is : (mark : Mark) (input : Input) (start : Option Mark) → (mark ≡ Halted → RoseIn between new) → (mark ≡ StayedDown → input ≡ Restart)

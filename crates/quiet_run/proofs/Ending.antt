@@ -13,12 +13,12 @@ use Rattle.node_table.specs.Numbering.{nodes_of}
 use Rattle.shard_replica.specs.Lists.{Medium}
 use Rattle.quiet_run.specs.declared.outcomes.DriveStop.{DriveStop}
 use Rattle.quiet_run.specs.declared.running.Running.{Running}
-use Rattle.quiet_run.specs.Causes.{HaveCauses}
+use Rattle.counted_node.specs.Causes.{HaveCauses}
 use Rattle.quiet_run.specs.Limits.{known_by, limit_passed}
 use Rattle.quiet_run.specs.Running.{CausesGoOn, HasGoneOn, IsBeginning, IsOnItsWay, IsUnderWay, StopsWith, job_of, scheduled_in}
 use Rattle.quiet_run.specs.Runs.{IsKnownAtMost, IsRunSoFar, IsStoppedWith, IsWithinLimits, KnowsMost, NoLimitBefore, count_in}
 use Rattle.quiet_run.specs.Standing.{IsJob, Job, StandAfter, node_of}
-use Rattle.quiet_run.proofs.Failures.{no_causes}
+use Rattle.counted_node.proofs.Failures.{no_causes}
 
 module _ (job : Job) (nodes : List ClusterNode) (is_job : IsJob job) (stand : StandAfter job [] nodes) where
   pub at_first_so_far : IsRunSoFar job [] nodes

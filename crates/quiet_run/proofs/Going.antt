@@ -14,13 +14,13 @@ use Rattle.schedule_model.proofs.RunLaws.{event_more}
 use Rattle.quiet_run.specs.declared.outcomes.DriveStop.TheVariants.{Limit, Memory}
 use Rattle.quiet_run.specs.declared.running.Running.{Running}
 use Rattle.shard_replica.specs.Lists.{Medium}
-use Rattle.quiet_run.specs.Causes.{AllCountOn, HasCause, journals_at, media_at}
+use Rattle.counted_node.specs.Causes.{AllCountOn, HasCause, journals_at, media_at}
 use Rattle.quiet_run.specs.Limits.{byte_limit, bytes_of, event_limit, is_one_full, limit_of, limit_passed}
 use Rattle.quiet_run.specs.Running.{CanKeep, CausesGoOn, HasGoneOn, IsOnItsWay, IsOver, IsTurnDue, Keeps, StopsWith, event_next, job_of, scheduled_in}
 use Rattle.quiet_run.specs.Runs.{IsRunSoFar, IsStoppedRun}
 use Rattle.quiet_run.specs.Standing.{Job, node_of}
 use Rattle.quiet_run.specs.Turns.{ShowsMark, TakesTurn}
-use Rattle.quiet_run.proofs.Failures.{causes_later, causes_push}
+use Rattle.counted_node.proofs.Failures.{causes_later, causes_push}
 use Rattle.quiet_run.proofs.Next.{given_place, goes_on, single, spelled, within as turn_in_cluster}
 use Rattle.quiet_run.proofs.Passing.{bytes_push, no_limit_push, room_left}
 

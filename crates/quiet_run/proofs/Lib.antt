@@ -4,8 +4,6 @@ pub mod Passing
 pub mod Answering
 pub mod Coming
 pub mod Taken
-pub mod Rises
-pub mod Failures
 pub mod Causing
 pub mod Planned
 pub mod Next

@@ -23,7 +23,7 @@ use Rattle.node_model.specs.StorageRow.{storage_role, outcome as storage_outcome
 use Rattle.node_model.proofs.Following.{node_here, node_there}
 use Rattle.quiet_law.specs.Quiet.{IsQuiet, TellsNoFailure}
 use Rattle.quiet_law.proofs.Marking.{row_quiet}
-use Rattle.quiet_run.specs.Causes.{shows_failure}
+use Rattle.counted_node.specs.Causes.{shows_failure}
 
 -- ---- one event of a node of any role
 

@@ -18,13 +18,13 @@ use Rattle.schedule_model.specs.Driven.{next_plans_after, next_turn_after}
 use Rattle.shard_replica.specs.Lists.{Medium, but_turns, medium_at}
 use Rattle.storage_node.specs.Counting.{CountsOn}
 use Rattle.quiet_run.specs.declared.outcomes.DriveStop.{DriveStop}
-use Rattle.quiet_run.specs.Causes.{AllCountOn, media_at}
+use Rattle.counted_node.specs.Causes.{AllCountOn, media_at}
 use Rattle.quiet_run.specs.Planning.{AreHandedOver, IsHandedTo, TurnBy}
 use Rattle.quiet_run.specs.Running.{CausesGoOn, StopsWith, TakesPlannedTurn}
 use Rattle.quiet_run.specs.Standing.{Job}
 use Rattle.quiet_run.proofs.Causing.{elsewhere, here_after, here_before}
-use Rattle.quiet_run.proofs.Failures.{all_same, causes_later}
-use Rattle.quiet_run.proofs.Rises.{counts_same, counts_then}
+use Rattle.counted_node.proofs.Failures.{all_same, causes_later}
+use Rattle.counted_node.proofs.Rises.{counts_same, counts_then}
 
 -- ---- whom plans are for
 

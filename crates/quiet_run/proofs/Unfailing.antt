@@ -20,13 +20,13 @@ use Rattle.quiet_law.specs.Quiet.{IsQuietRun}
 use Rattle.quiet_law.proofs.Ending.{run_ended}
 use Rattle.quiet_run.specs.declared.outcomes.Driven.{Driven}
 use Rattle.quiet_run.specs.declared.outcomes.DriveStop.{DriveStop}
-use Rattle.quiet_run.specs.Causes.{HaveCauses, failures, journals_at, media_at, shows_failure}
+use Rattle.counted_node.specs.Causes.{HaveCauses, failures, journals_at, media_at, shows_failure}
 use Rattle.quiet_run.specs.Runs.{IsWithinLimits}
 use Rattle.quiet_run.specs.Standing.{job}
 use Rattle.quiet_run.specs.Unfailing.{AreUnfailing, ShowsNone}
-use Rattle.quiet_run.proofs.Failures.{failures_some}
+use Rattle.counted_node.proofs.Failures.{failures_some}
 use Rattle.quiet_run.proofs.NoFlight.{all_quiet}
-use Rattle.quiet_run.proofs.Rises.{none_counted}
+use Rattle.counted_node.proofs.Rises.{none_counted}
 use Rattle.quiet_run.proofs.Slots.{has_slots}
 
 -- where no node shows a failure, no event of a node does

@@ -1,6 +1,5 @@
 pub mod Standing
 pub mod Spelled
-pub mod Causes
 pub mod Planning
 pub mod Turns
 pub mod Limits

@@ -7,7 +7,7 @@ use Rattle.node_model.specs.NodeState.{NodeState}
 use Rattle.schedule_model.specs.declared.duties.Planned.{Planned}
 use Rattle.segment_journal.specs.Journalled.{planned}
 use Rattle.shard_replica.specs.Lists.{Medium, but_turns, medium_at}
-use Rattle.quiet_run.specs.Causes.{media_at}
+use Rattle.counted_node.specs.Causes.{media_at}
 
 -- The next put and the next reload of each journal of a node turn out by the plan, and nothing else is told otherwise.
 pub record TurnBy (plan : Plan) (state : NodeState) (old new : List Medium) : Type 0 where

@@ -15,7 +15,7 @@ use Rattle.schedule_model.specs.Scheduling.{Scheduled, given, noted}
 use Rattle.quiet_run.specs.declared.running.Running.{Running}
 use Rattle.shard_replica.specs.Lists.{Medium}
 use Rattle.quiet_run.specs.declared.outcomes.DriveStop.{DriveStop}
-use Rattle.quiet_run.specs.Causes.{HaveCauses, media_at}
+use Rattle.counted_node.specs.Causes.{HaveCauses, media_at}
 use Rattle.quiet_run.specs.Limits.{byte_limit, bytes_of, event_limit, limit_passed}
 use Rattle.quiet_run.specs.Planning.{AreHandedOver}
 use Rattle.quiet_run.specs.Runs.{IsRunSoFar, IsStoppedWith, NoLimitBefore}

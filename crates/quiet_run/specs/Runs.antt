@@ -12,7 +12,7 @@ use Rattle.quiet_run.specs.declared.outcomes.DriveStop.{DriveStop}
 use Rattle.quiet_run.specs.declared.outcomes.DriveStop.TheVariants.{Limit, Memory}
 use Rattle.core_step.specs.Known.{known_chain, known_count}
 use Rattle.shard_replica.specs.Lists.{Medium}
-use Rattle.quiet_run.specs.Causes.{HaveCauses}
+use Rattle.counted_node.specs.Causes.{HaveCauses}
 use Rattle.quiet_run.specs.Limits.{known_by, limit_passed}
 use Rattle.quiet_run.specs.Standing.{Job, StandAfter}
 

@@ -5,7 +5,7 @@ use Rattle.history_frame.specs.declared.inputs.Input.{Input}
 use Rattle.history_frame.specs.declared.inputs.Mark.{Mark}
 use Rattle.node_model.specs.Machine.{ClusterNode, node_meanings}
 use Rattle.shard_replica.specs.Lists.{Medium}
-use Rattle.quiet_run.specs.Causes.{HasCause, journals_at, media_at}
+use Rattle.counted_node.specs.Causes.{HasCause, journals_at, media_at}
 
 -- there is a node of this number, and the input fits it
 pub record IsAt (nodes : List ClusterNode) (number : ℕ) (input : Input) : Type 0 where

@@ -4,7 +4,7 @@ use Rattle.history_frame.specs.declared.events.Event.{Event}
 use Rattle.log_base.specs.ClusterShape.{Shape}
 use Rattle.node_table.specs.Numbering.{nodes_of}
 use Rattle.shard_replica.specs.Lists.{Medium}
-use Rattle.quiet_run.specs.Causes.{AllKeep, NoneRose, failures, journals_at, media_at}
+use Rattle.counted_node.specs.Causes.{AllKeep, NoneRose, failures, journals_at, media_at}
 
 -- no event shows that a disk failed, where disks keep synced bytes
 abbrev pub ShowsNone : Shape → List Event → Type 0

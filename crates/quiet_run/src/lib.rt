@@ -15,6 +15,7 @@ mod serving;
 mod taking;
 mod turning;
 
+pub use limits::is_one_full;
 pub use outcomes::{DriveStop, Driven};
 pub use serving::drive;
 

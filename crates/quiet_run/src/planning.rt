@@ -3,7 +3,7 @@
 ghost use Rattle.std.specs.Prelude.{◌≡◌, ◌<◌, length, map};
 ghost use Rattle.std.specs.List.{AllByRecursion};
 ghost use Rattle.core_step.specs.Standing.{cluster_node};
-ghost use Rattle.quiet_run.specs.Causes.{node_media};
+ghost use Rattle.counted_node.specs.Causes.{node_media};
 ghost use Rattle.quiet_run.specs.Planning.{AreHandedOver, IsHandedTo};
 
 use core_step::Node;

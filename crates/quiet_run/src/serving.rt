@@ -12,7 +12,7 @@ ghost use Rattle.plain_log.specs.Log.{log_of};
 ghost use Rattle.reply_frame.specs.Replies.{HasSpelling};
 ghost use Rattle.schedule_model.specs.Driven.{IsDriven, replies_of};
 ghost use Rattle.command_frame.specs.Streams.{unplaced};
-ghost use Rattle.quiet_run.specs.Causes.{AllCountOn, BeginWithStarts, HaveCauses, StartsAreClean, node_media};
+ghost use Rattle.counted_node.specs.Causes.{AllCountOn, BeginWithStarts, HaveCauses, StartsAreClean, node_media};
 ghost use Rattle.quiet_run.specs.Running.{CausesGoOn, IsOver, IsUnderWay, StopsWith, job_of};
 ghost use Rattle.quiet_run.specs.Runs.{IsKnownAtMost, IsStoppedRun, IsStoppedWith, IsWithinLimits, KnowsMost};
 ghost use Rattle.quiet_run.specs.Spelled.{AreKept};

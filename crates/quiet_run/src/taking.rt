@@ -3,7 +3,7 @@
 ghost use Rattle.std.specs.Prelude.{◌≡◌, ◌≢◌, ◌+◌, ℕ, length, map, Ok, true, false, OnOk, OnErr, IfErr, IsSomeAnd};
 ghost use Rattle.core_step.specs.Standing.{cluster_node};
 ghost use Rattle.quiet_run.specs.declared.outcomes.DriveStop.TheVariants.{Memory as Want};
-ghost use Rattle.quiet_run.specs.Causes.{media_at, node_media};
+ghost use Rattle.counted_node.specs.Causes.{media_at, node_media};
 ghost use Rattle.quiet_run.specs.Running.{CausesGoOn, HasGoneOn, IsOnItsWay, IsOver, IsTurnDue, StopsWith, TakesPlannedTurn, job_of, scheduled_in};
 ghost use Rattle.quiet_run.specs.Planning.{AreHandedOver};
 ghost use Rattle.quiet_run.specs.Runs.{IsStoppedRun};

@@ -5,7 +5,7 @@ ghost use Rattle.node_model.specs.Machine.{node_meanings, posted};
 ghost use Rattle.node_model.specs.NodeState.{IsRow};
 ghost use Rattle.core_step.specs.Standing.{Standing, cluster_node};
 ghost use Rattle.storage_node.specs.Counting.{CountsOn};
-ghost use Rattle.quiet_run.specs.Causes.{AllCountOn, HasCause, journals_at, node_media};
+ghost use Rattle.counted_node.specs.Causes.{AllCountOn, HasCause, journals_at, node_media};
 ghost use Rattle.quiet_run.specs.Turns.{IsAt, ShowsMark, TakesTurn};
 
 use core_step::Node;

@@ -1,6 +1,5 @@
 use Rattle.std.proofs.Common.{ℕ, arith, refl, sym, ap, subst, ◌∙◌}
-use Rattle.core_step.specs.Standing.{cluster_node}
-use Rattle.node_model.specs.Machine.{ClusterNode, node_meanings}
+use Rattle.counted_node.specs.Counted.{counted_meanings, counted_node, CountedState}
 use Rattle.tied_cells.specs.History.{StandsAfter}
 use Rattle.tied_cells.specs.Turns.{HasTurn, IsLastFetched}
 use Rattle.cluster.proofs.Charging.{charged_at}
@@ -10,23 +9,23 @@ use Rattle.cluster.proofs.calling.give_under.Goals as goal
 
 pub returns-in_err-ready_commit-clause-held : goal.returns-in_err-ready_commit-clause-held
 returns-in_err-ready_commit-clause-held g c =
-    let me = c.args.pass.now.seat.me in let S = cluster_node g.J.Journal.state in
+    let me = c.args.pass.now.seat.me in let S = counted_node g.J.Journal.state in
     held_moves S me me c.args.node.0 c.args.held.now.cell _ c.requires.held refl c.ready_commit.ensures.same.2 (ap S c.ready_commit.ensures.same.1)
 
 pub returns-in_err-room-clause-held : goal.returns-in_err-room-clause-held
 returns-in_err-room-clause-held g c =
-    let me = c.args.pass.now.seat.me in let S = cluster_node g.J.Journal.state in
+    let me = c.args.pass.now.seat.me in let S = counted_node g.J.Journal.state in
     held_moves S me me c.args.node.0 c.args.held.now.cell _ c.requires.held refl c.ready_commit.ensures.same.2 (ap S c.ready_commit.ensures.same.1)
 
 pub act-requires-clause-fits : goal.act-requires-clause-fits
 act-requires-clause-fits g c =
-    let S = cluster_node g.J.Journal.state in let h = c.requires.held in
+    let S = counted_node g.J.Journal.state in let h = c.requires.held in
     let was = ap S (c.machine.ensures.now ∙ c.ready_commit.ensures.same.1) ∙ h.stands.2 in
-    subst (λ (n : ClusterNode). node_meanings.fits n c.args.input) (sym was) (c.requires.fits h.stands.0 h.stands.1 c.args.held.now.cell.events.items)
+    subst (λ (n : CountedState). counted_meanings.fits n c.args.input) (sym was) (c.requires.fits h.stands.0 h.stands.1 c.args.held.now.cell.events.items)
 
 pub returns-in_err-stepped-clause-held : goal.returns-in_err-stepped-clause-held
 returns-in_err-stepped-clause-held g c =
-    let me = c.args.pass.now.seat.me in let S = cluster_node g.J.Journal.state in
+    let me = c.args.pass.now.seat.me in let S = counted_node g.J.Journal.state in
     held_moves S me me c.args.node.0 c.args.held.now.cell _ c.requires.held refl c.ready_commit.ensures.same.2
     (c.in_err-stepped.ensures.err ∙ ap S (c.machine.ensures.now ∙ c.ready_commit.ensures.same.1))
 
@@ -44,7 +43,7 @@ commit-place-requires-clause-turn g c =
 
 pub commit-place-requires-clause-stepped : goal.commit-place-requires-clause-stepped
 commit-place-requires-clause-stepped g c =
-    let me = c.args.pass.now.seat.me in let S = cluster_node g.J.Journal.state in let h = c.requires.held in
+    let me = c.args.pass.now.seat.me in let S = counted_node g.J.Journal.state in let h = c.requires.held in
     has_stepped S me me c.args.node.0 c.args.held.now.cell (record c.ready_commit.new.held.cell { machine = c.act.new.node }) h refl c.ready_commit.ensures.same.2
     c.machine.result.now (ap S (c.machine.ensures.now ∙ c.ready_commit.ensures.same.1)) c.args.input c.in_ok-stepped.stepped.happened c.act.new.out.letters c.in_ok-stepped.ensures.acts
     (c.requires.fits h.stands.0 h.stands.1 c.args.held.now.cell.events.items)
@@ -54,14 +53,14 @@ commit-place-requires-clause-stepped g c =
 pub returns-clause-held : goal.returns-clause-held
 returns-clause-held g c =
     let here = ap (λ n. n.0) (c.commit-place.ensures.held.0 ∙ (c.ready_commit.ensures.same.0 ∙ c.requires.node.1)) in
-    let S = cluster_node g.J.Journal.state in let cell = c.commit-place.new.held.cell in let me = c.commit-place.new.pass.seat.me in record {
+    let S = counted_node g.J.Journal.state in let cell = c.commit-place.new.held.cell in let me = c.commit-place.new.pass.seat.me in record {
       turn = subst (λ (n : ℕ). HasTurn me n cell) here c.commit-place.ensures.turn;
-      stands = subst (λ (n : ℕ). StandsAfter S node_meanings me.0.deal.starts n cell.machine cell.events.items) here c.commit-place.ensures.stands;
+      stands = subst (λ (n : ℕ). StandsAfter S counted_meanings me.0.deal.starts n cell.machine cell.events.items) here c.commit-place.ensures.stands;
     }
 
 pub returns-clause-ok : goal.returns-clause-ok
 returns-clause-ok g c =
-    let me = c.args.pass.now.seat.me in let S = cluster_node g.J.Journal.state in let h = c.requires.held in
+    let me = c.args.pass.now.seat.me in let S = counted_node g.J.Journal.state in let h = c.requires.held in
     given_under S me me c.args.node.0 c.args.held.now.cell (record c.ready_commit.new.held.cell { machine = c.act.new.node }) h refl c.ready_commit.ensures.same.2
     c.machine.result.now (ap S (c.machine.ensures.now ∙ c.ready_commit.ensures.same.1)) c.args.input c.in_ok-stepped.stepped.happened c.act.new.out.letters c.in_ok-stepped.ensures.acts
     c.commit-place.new.pass.seat.me c.commit-place.result _ c.commit-place.ensures.view c.ready_commit.new.held.node.0

@@ -1,15 +1,14 @@
 use Rattle.std.proofs.Common.{arith, length, sym, ap, subst}
-use Rattle.core_step.specs.Standing.{cluster_node}
+use Rattle.counted_node.specs.Counted.{counted_meanings, counted_node}
 use Rattle.history_frame.specs.declared.inputs.Input.{Input}
 use Rattle.history_frame.specs.Spelling.{input_spelling}
-use Rattle.node_model.specs.Machine.{node_meanings}
 use Rattle.cluster.specs.Stepping.{Acts}
 use Rattle.cluster.proofs.Sizes.{acts_parts, acts_single, acts_small}
 use Rattle.cluster.proofs.stepping.act.Goals as goal
 
 pub step_node-requires-clause-fits : goal.step_node-requires-clause-fits
 step_node-requires-clause-fits g c =
-    subst (λ (x : Input). node_meanings.fits (cluster_node g.J.Journal.state c.args.node.now) x) (sym c.front_of-input.ensures.input) c.requires.fits
+    subst (λ (x : Input). counted_meanings.fits (counted_node g.J.Journal.state c.args.node.now) x) (sym c.front_of-input.ensures.input) c.requires.fits
 
 pub letters_size-requires : goal.letters_size-requires
 letters_size-requires g c = let small = acts_small _ _ _ _ _ c.in_ok-happened.ensures.acts in omega (arith, small)
@@ -34,7 +33,7 @@ overflow_add-bytes-2 g c =
 
 pub returns-clause-acts : goal.returns-clause-acts
 returns-clause-acts g c =
-    subst (λ (x : Input). Acts (cluster_node g.J.Journal.state c.args.node.now) (cluster_node g.J.Journal.state c.step_node.new.node) x c.in_ok-happened.happened c.step_node.new.out.letters)
+    subst (λ (x : Input). Acts (counted_node g.J.Journal.state c.args.node.now) (counted_node g.J.Journal.state c.step_node.new.node) x c.in_ok-happened.happened c.step_node.new.out.letters)
     c.front_of-input.ensures.input c.in_ok-happened.ensures.acts
 
 pub returns-clause-bytes : goal.returns-clause-bytes

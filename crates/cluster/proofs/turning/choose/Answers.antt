@@ -1,6 +1,6 @@
 use Rattle.std.proofs.Common.{Bool, refl, sym, subst}
+use Rattle.counted_node.specs.Counted.{counted_meanings}
 use Rattle.history_frame.specs.declared.inputs.Input.TheVariants.{Restart, Tick}
-use Rattle.node_model.specs.Machine.{node_meanings}
 use Rattle.tied_cells.specs.Boxes.{Fetches}
 use Rattle.tied_cells.specs.declared.letter.Letter.{Letter}
 use Rattle.tied_cells.specs.declared.mail.Fetched.TheVariants.{Letter as GotLetter, Empty}
@@ -19,7 +19,7 @@ returns-in-Letter-clause-chosen g c =
     (GotLetter c.in-Letter.letter, c.in-Letter.ensures.outcome, d)) c.read.ensures
 
 pub returns-in-Letter-clause-lost : goal.returns-in-Letter-clause-lost
-returns-in-Letter-clause-lost g c = on_err ((letter : Letter) × Fetches node_meanings c.args.node.0 c.args.pass.now.seat.me c.fetch.new.pass.seat.me (GotLetter letter)) c.read.result
+returns-in-Letter-clause-lost g c = on_err ((letter : Letter) × Fetches counted_meanings c.args.node.0 c.args.pass.now.seat.me c.fetch.new.pass.seat.me (GotLetter letter)) c.read.result
     (c.in-Letter.letter, c.in-Letter.ensures.outcome)
 
 pub returns-in-Empty-clause-chosen : goal.returns-in-Empty-clause-chosen

@@ -3,7 +3,7 @@ use Rattle.std.proofs.lemmas.List.{length-map, take_all}
 use Rattle.core_step.specs.Standing.{cluster_node}
 use Rattle.node_model.specs.Machine.{ClusterNode}
 use Rattle.schedule_model.specs.declared.duties.Planned.{Planned}
-use Rattle.quiet_run.specs.Causes.{node_media}
+use Rattle.counted_node.specs.Causes.{node_media}
 use Rattle.quiet_run.specs.Planning.{AreHandedOver, IsHandedTo}
 use Rattle.quiet_run.proofs.Planned.{among_at, handed_more, no_plan}
 use Rattle.quiet_run.proofs.planning.hand_over.Goals as goal

@@ -1,6 +1,6 @@
 use Rattle.std.proofs.Common.{◌≡◌, map, take}
 use Rattle.core_step.specs.Standing.{cluster_node}
-use Rattle.quiet_run.specs.Causes.{node_media}
+use Rattle.counted_node.specs.Causes.{node_media}
 use Rattle.quiet_run.specs.Planning.{AreHandedOver}
 use Rattle.quiet_run.proofs.planning.hand_over.Given as goal
 

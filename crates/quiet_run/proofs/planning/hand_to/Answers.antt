@@ -1,7 +1,7 @@
 use Rattle.std.proofs.Common.{◌≡◌, slice_index_or}
 use Rattle.std.proofs.Math.Seq.{map-set_same}
 use Rattle.core_step.specs.Standing.{cluster_node}
-use Rattle.quiet_run.specs.Causes.{node_media}
+use Rattle.counted_node.specs.Causes.{node_media}
 use Rattle.quiet_run.proofs.Planned.{handed_here}
 use Rattle.quiet_run.proofs.Taken.{state_at}
 use Rattle.quiet_run.proofs.planning.hand_to.Goals as goal

@@ -4,7 +4,7 @@ use Rattle.core_step.specs.Standing.{Standing, cluster_node}
 use Rattle.log_base.specs.Shape.{shape}
 use Rattle.quiet_run.specs.declared.outcomes.Driven.{Driven}
 use Rattle.quiet_run.specs.declared.outcomes.DriveStop.{DriveStop}
-use Rattle.quiet_run.specs.Causes.{AllCountOn, HaveCauses, StartsAreClean, node_media}
+use Rattle.counted_node.specs.Causes.{AllCountOn, HaveCauses, StartsAreClean, node_media}
 use Rattle.quiet_run.specs.Runs.{IsStoppedRun, IsStoppedWith}
 use Rattle.quiet_run.specs.Standing.{StandAfter, job}
 use Rattle.quiet_run.proofs.Ending.{lent_whole}

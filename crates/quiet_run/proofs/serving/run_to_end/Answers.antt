@@ -3,7 +3,7 @@ use Rattle.core_step.specs.Standing.{cluster_node}
 use Rattle.quiet_run.specs.declared.outcomes.DriveStop.{DriveStop}
 use Rattle.quiet_run.specs.Running.{StopsWith, job_of, scheduled_in}
 use Rattle.quiet_run.specs.Standing.{Job}
-use Rattle.quiet_run.specs.Causes.{node_media}
+use Rattle.counted_node.specs.Causes.{node_media}
 use Rattle.quiet_run.proofs.Ending.{causes_then, stopped_then, under_way_on}
 use Rattle.quiet_run.proofs.Going.{if_err_with}
 use Rattle.quiet_run.proofs.serving.run_to_end.Goals as goal

@@ -1,6 +1,6 @@
 use Rattle.std.proofs.Common.{◌-◌, length, map}
 use Rattle.core_step.specs.Standing.{cluster_node}
-use Rattle.quiet_run.specs.Causes.{node_media}
+use Rattle.counted_node.specs.Causes.{node_media}
 use Rattle.quiet_run.specs.Running.{CausesGoOn, IsUnderWay, job_of}
 use Rattle.quiet_run.proofs.serving.run_to_end.Given as goal
 

@@ -17,12 +17,12 @@ use Rattle.schedule_model.proofs.RunLaws.{replies_all}
 use Rattle.schedule_model.proofs.Starting.{all_started}
 use Rattle.quiet_run.specs.declared.outcomes.DriveStop.{DriveStop}
 use Rattle.quiet_run.specs.declared.outcomes.DriveStop.TheVariants.{Memory}
-use Rattle.quiet_run.specs.Causes.{BeginWithStarts, HaveCauses, StartsAreClean, node_media}
+use Rattle.counted_node.specs.Causes.{BeginWithStarts, HaveCauses, StartsAreClean, node_media}
 use Rattle.quiet_run.specs.Running.{IsBeginning, IsOver, IsUnderWay, job_of}
 use Rattle.quiet_run.specs.Runs.{IsKnownAtMost, IsStoppedRun, IsStoppedWith, IsWithinLimits}
 use Rattle.quiet_run.specs.Standing.{IsJob, Job, StandAfter, job}
 use Rattle.quiet_run.proofs.Ending.{at_first_so_far, causes_from_first, most_is_known, nodes_some, stopped_from_first, under_way_at_first, within_limits}
-use Rattle.quiet_run.proofs.Failures.{all_same, no_causes}
+use Rattle.counted_node.proofs.Failures.{all_same, no_causes}
 use Rattle.quiet_run.proofs.Going.{if_err_with, stopped_before, stopped_with_before}
 use Rattle.quiet_run.proofs.Spelling.{all_replies_spelled, history_is_spelled}
 use Rattle.quiet_run.proofs.StreamSpelling.{all_placed_spelled}

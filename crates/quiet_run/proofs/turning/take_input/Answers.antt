@@ -1,9 +1,10 @@
 use Rattle.std.proofs.Common.{◌≡◌, length, ap, ◌∙◌}
 use Rattle.node_model.specs.Machine.{ClusterNode}
 use Rattle.core_step.specs.Disks.{start_mark}
-use Rattle.quiet_run.specs.Causes.{journals_at, node_media}
-use Rattle.quiet_run.proofs.Causing.{cause_is, told_all}
-use Rattle.quiet_run.proofs.Rises.{counts_then}
+use Rattle.counted_node.specs.Causes.{journals_at, node_media}
+use Rattle.counted_node.proofs.Stepping.{told_all}
+use Rattle.quiet_run.proofs.Causing.{cause_is}
+use Rattle.counted_node.proofs.Rises.{counts_then}
 use Rattle.quiet_run.proofs.turning.take_input.Goals as goal
 
 pub returns-clause-counts : goal.returns-clause-counts

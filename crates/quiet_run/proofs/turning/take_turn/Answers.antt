@@ -1,6 +1,6 @@
 use Rattle.std.proofs.Common.{refl}
 use Rattle.core_step.specs.Standing.{cluster_node}
-use Rattle.quiet_run.specs.Causes.{node_media}
+use Rattle.counted_node.specs.Causes.{node_media}
 use Rattle.quiet_run.proofs.Causing.{turn_counts, turn_shows}
 use Rattle.quiet_run.proofs.Taken.{fits_here, none_taken, state_at, turn_taken}
 use Rattle.quiet_run.proofs.turning.take_turn.Goals as goal

@@ -1,8 +1,7 @@
 use Rattle.std.proofs.Common.{List, sym, subst, ◌∙◌, refl}
-use Rattle.core_step.specs.Standing.{cluster_node}
+use Rattle.counted_node.specs.Counted.{counted_node, CountedState}
 use Rattle.history_frame.specs.declared.inputs.Input.TheVariants.{Call as ACall}
 use Rattle.log_base.specs.Shape.{shape}
-use Rattle.node_model.specs.Machine.{ClusterNode}
 use Rattle.node_model.specs.Sound.{payloads_on}
 use Rattle.node_table.specs.Numbering.{nodes_of, role_at}
 use Rattle.tied_cells.specs.Turns.{HasLeft}
@@ -19,14 +18,14 @@ give_held-requires-clause-node g c = (c.requires.node, λ i. record { 0 = c.in-H
 
 pub give_held-requires-clause-held : goal.give_held-requires-clause-held
 give_held-requires-clause-held g c = let t = c.in-Held.ensures.outcome in
-    held_at (cluster_node g.J.Journal.state) c.args.pass.now.seat.me c.take.new.pass.seat.me c.args.node.0 c.in-Held.held.cell t.1 t.2
+    held_at (counted_node g.J.Journal.state) c.args.pass.now.seat.me c.take.new.pass.seat.me c.args.node.0 c.in-Held.held.cell t.1 t.2
 
 pub give_held-requires-clause-left : goal.give_held-requires-clause-left
 give_held-requires-clause-left g c = subst HasLeft (sym c.in-Held.ensures.same.1) (left_over c.spent.result (HasLeft c.args.pass.now.account) c.if-spent.false c.spent.ensures.left)
 
 pub give_held-requires-clause-fits : goal.give_held-requires-clause-fits
 give_held-requires-clause-fits g c = let t = c.in-Held.ensures.outcome in let config = shape c.args.self.now.config in
-    subst (λ (starts : List ClusterNode). FitsAlways starts c.args.node.0 (ACall c.args.call)) (λ i. (sym t.1 i).0.deal.starts)
+    subst (λ (starts : List CountedState). FitsAlways starts c.args.node.0 (ACall c.args.call)) (λ i. (sym t.1 i).0.deal.starts)
     (call_fits config (payloads_on c.args.self.now.kept) c.args.pass.now.seat.me.0.deal.starts c.requires.pass.first c.args.node.0 c.requires.node c.args.call c.requires.fits)
 
 pub give_held-requires-clause-spelled : goal.give_held-requires-clause-spelled

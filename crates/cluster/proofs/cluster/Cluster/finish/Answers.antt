@@ -1,6 +1,5 @@
 use Rattle.std.proofs.Common.{ℕ, [], sym, ap, subst}
-use Rattle.core_step.specs.Standing.{cluster_node}
-use Rattle.node_model.specs.Machine.{node_meanings}
+use Rattle.counted_node.specs.Counted.{counted_meanings, counted_node}
 use Rattle.tied_cells.specs.History.{StandsAfter}
 use Rattle.tied_cells.specs.Turns.{HasTurn}
 use Rattle.tied_cells.specs.Views.{let_go}
@@ -13,11 +12,11 @@ release-requires-clause-turn g c =
 
 pub release-requires-clause-stands : goal.release-requires-clause-stands
 release-requires-clause-stands g c =
-    subst (λ (n : ℕ). StandsAfter (cluster_node g.J.Journal.state) node_meanings c.args.pass.now.seat.me.0.deal.starts n c.args.held.cell.machine c.args.held.cell.events.items)
+    subst (λ (n : ℕ). StandsAfter (counted_node g.J.Journal.state) counted_meanings c.args.pass.now.seat.me.0.deal.starts n c.args.held.cell.machine c.args.held.cell.events.items)
     (ap (λ n. n.0) (sym c.requires.node.1)) c.requires.held.stands
 
 pub post_all-requires-clause-outputs : goal.post_all-requires-clause-outputs
-post_all-requires-clause-outputs g c = subst (λ me. HasOutputs node_meanings me.0 c.args.place c.args.out.now.letters) (sym c.release.ensures.view) c.requires.outputs
+post_all-requires-clause-outputs g c = subst (λ me. HasOutputs counted_meanings me.0 c.args.place c.args.out.now.letters) (sym c.release.ensures.view) c.requires.outputs
 
 pub returns-clause-go_out : goal.returns-clause-go_out
 returns-clause-go_out g c =

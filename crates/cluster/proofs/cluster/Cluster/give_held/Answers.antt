@@ -1,6 +1,5 @@
 use Rattle.std.proofs.Common.{ℕ, sym, ap, subst, refl}
-use Rattle.core_step.specs.Standing.{cluster_node}
-use Rattle.node_model.specs.Machine.{node_meanings}
+use Rattle.counted_node.specs.Counted.{counted_meanings, counted_node}
 use Rattle.node_table.specs.Numbering.{nodes_of}
 use Rattle.log_base.specs.Shape.{shape}
 use Rattle.tied_cells.specs.History.{StandsAfter}
@@ -30,7 +29,7 @@ release-requires-clause-turn g c = subst (λ (n : ℕ). HasTurn c.give_under.new
 
 pub release-requires-clause-stands : goal.release-requires-clause-stands
 release-requires-clause-stands g c = let cell = c.give_under.new.held.cell in
-    subst (λ (n : ℕ). StandsAfter (cluster_node g.J.Journal.state) node_meanings c.give_under.new.pass.seat.me.0.deal.starts n cell.machine cell.events.items)
+    subst (λ (n : ℕ). StandsAfter (counted_node g.J.Journal.state) counted_meanings c.give_under.new.pass.seat.me.0.deal.starts n cell.machine cell.events.items)
     (ap (λ n. n.0) (sym c.in-Err.ensures.node)) c.in-Err.ensures.held.stands
 
 pub returns-in-Err-clause-free : goal.returns-in-Err-clause-free

@@ -1,8 +1,7 @@
 use Rattle.std.proofs.Common.{◌<◌, ℕ, List, sym, subst, refl, ◌∙◌}
-use Rattle.core_step.specs.Standing.{cluster_node}
+use Rattle.counted_node.specs.Counted.{counted_node, CountedState}
 use Rattle.history_frame.specs.declared.inputs.Input.TheVariants.{Lead}
 use Rattle.log_base.specs.Shape.{shape}
-use Rattle.node_model.specs.Machine.{ClusterNode}
 use Rattle.node_model.specs.Sound.{payloads_on}
 use Rattle.node_table.specs.Numbering.{nodes_of, orderer_node}
 use Rattle.tied_cells.specs.Turns.{HasLeft}
@@ -21,7 +20,7 @@ give_held-requires-clause-node g c = (c.orderer-node.ensures.within, λ i. recor
 
 pub give_held-requires-clause-held : goal.give_held-requires-clause-held
 give_held-requires-clause-held g c = let t = c.in-Held.ensures.outcome in
-    held_at (cluster_node g.J.Journal.state) c.args.pass.now.seat.me c.take.new.pass.seat.me c.orderer-node.result.0 c.in-Held.held.cell t.1 t.2
+    held_at (counted_node g.J.Journal.state) c.args.pass.now.seat.me c.take.new.pass.seat.me c.orderer-node.result.0 c.in-Held.held.cell t.1 t.2
 
 pub give_held-requires-clause-left : goal.give_held-requires-clause-left
 give_held-requires-clause-left g c = subst HasLeft (sym c.in-Held.ensures.same.1) (left_over c.spent.result (HasLeft c.args.pass.now.account) c.if-spent.false c.spent.ensures.left)
@@ -30,7 +29,7 @@ pub give_held-requires-clause-fits : goal.give_held-requires-clause-fits
 give_held-requires-clause-fits g c = let t = c.in-Held.ensures.outcome in let config = shape c.args.self.now.config in
     let within = subst (λ (n : ℕ). n < nodes_of config) c.orderer-node.ensures.node c.orderer-node.ensures.within in
     subst (λ (n : ℕ). FitsAlways c.take.new.pass.seat.me.0.deal.starts n Lead) (sym c.orderer-node.ensures.node)
-    (subst (λ (starts : List ClusterNode). FitsAlways starts (orderer_node config c.args.index) Lead) (λ i. (sym t.1 i).0.deal.starts)
+    (subst (λ (starts : List CountedState). FitsAlways starts (orderer_node config c.args.index) Lead) (λ i. (sym t.1 i).0.deal.starts)
     (lead_fits config (payloads_on c.args.self.now.kept) c.args.pass.now.seat.me.0.deal.starts c.requires.pass.first c.args.index c.requires.orderer within))
 
 pub returns-in-Ok-clause-answer : goal.returns-in-Ok-clause-answer

@@ -1,5 +1,5 @@
 use Rattle.std.proofs.Common.{sym, subst, ◌∙◌, refl}
-use Rattle.core_step.specs.Standing.{cluster_node}
+use Rattle.counted_node.specs.Counted.{counted_node}
 use Rattle.node_table.specs.Numbering.{nodes_of}
 use Rattle.log_base.specs.Shape.{shape}
 use Rattle.tied_cells.specs.Turns.{HasLeft}
@@ -16,7 +16,7 @@ turn_held-requires-clause-node g c = (c.requires.node, λ i. record { 0 = c.in-H
 
 pub turn_held-requires-clause-held : goal.turn_held-requires-clause-held
 turn_held-requires-clause-held g c = let t = c.in-Held.ensures.outcome in
-    held_at (cluster_node g.J.Journal.state) c.args.pass.now.seat.me c.take.new.pass.seat.me c.args.node.0 c.in-Held.held.cell t.1 t.2
+    held_at (counted_node g.J.Journal.state) c.args.pass.now.seat.me c.take.new.pass.seat.me c.args.node.0 c.in-Held.held.cell t.1 t.2
 
 pub turn_held-requires-clause-left : goal.turn_held-requires-clause-left
 turn_held-requires-clause-left g c = subst HasLeft (sym c.in-Held.ensures.same.1) (left_over c.spent.result (HasLeft c.args.pass.now.account) c.if-spent.false c.spent.ensures.left)

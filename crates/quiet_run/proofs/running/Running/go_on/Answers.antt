@@ -10,12 +10,12 @@ use Rattle.schedule_model.specs.Scheduling.{next_plans, next_turn}
 use Rattle.schedule_model.proofs.RunLaws.{plans_allowed}
 use Rattle.quiet_run.specs.declared.outcomes.DriveStop.{DriveStop}
 use Rattle.quiet_run.specs.declared.outcomes.DriveStop.TheVariants.{Memory}
-use Rattle.quiet_run.specs.Causes.{node_media}
+use Rattle.counted_node.specs.Causes.{node_media}
 use Rattle.quiet_run.specs.Running.{StopsWith, job_of, scheduled_in}
 use Rattle.quiet_run.specs.Planning.{AreHandedOver}
 use Rattle.quiet_run.specs.Runs.{IsStoppedRun}
 use Rattle.quiet_run.proofs.Going.{if_err_more, if_err_with, on_ok_more, stopped_before, stopped_with_before}
-use Rattle.quiet_run.proofs.Failures.{all_same}
+use Rattle.counted_node.proofs.Failures.{all_same}
 use Rattle.quiet_run.proofs.Planned.{among_all, causes_from, handed_counts, planned_turn, stops_from}
 use Rattle.quiet_run.proofs.running.Running.go_on.Goals as goal
 

@@ -4,7 +4,7 @@ use Rattle.core_step.specs.Standing.{cluster_node}
 use Rattle.quiet_run.specs.declared.outcomes.DriveStop.{DriveStop}
 use Rattle.quiet_run.specs.declared.outcomes.DriveStop.TheVariants.{Memory}
 use Rattle.quiet_run.specs.Limits.{is_one_full, limit_passed}
-use Rattle.quiet_run.specs.Causes.{node_media}
+use Rattle.counted_node.specs.Causes.{node_media}
 use Rattle.quiet_run.specs.Running.{StopsWith, job_of, scheduled_in}
 use Rattle.quiet_run.proofs.Going.{if_err_with, limit_is, run_over, stopped_at, stopped_with_at, turn_due}
 use Rattle.quiet_run.proofs.Passing.{full_is}

@@ -2,7 +2,7 @@ use Rattle.std.proofs.Common.{map, sym, subst, ℕ, arith}
 use Rattle.std.proofs.lemmas.List.{length-map}
 use Rattle.core_step.specs.Standing.{cluster_node}
 use Rattle.quiet_run.specs.Running.{Keeps, job_of}
-use Rattle.quiet_run.specs.Causes.{node_media}
+use Rattle.counted_node.specs.Causes.{node_media}
 use Rattle.quiet_run.specs.Turns.{IsAt, ShowsMark, TakesTurn}
 use Rattle.quiet_run.proofs.Going.{can_keep, causes_kept, gone_on, on_err_always, on_ok_more, stopped_after, stopped_before, stopped_with_after, stopped_with_before}
 use Rattle.quiet_run.proofs.Next.{turn_fits, turn_within}

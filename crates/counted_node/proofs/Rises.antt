@@ -6,7 +6,7 @@ use Rattle.std.proofs.lemmas.List.{get_or_past}
 use Rattle.shard_replica.specs.Lists.{Medium, medium_at, no_medium}
 use Rattle.storage_node.specs.Counting.{CountsOn}
 use Rattle.storage_node.specs.Opening.{RoseIn}
-use Rattle.quiet_run.specs.Causes.{AllKeep, IsAtLast, IsCounted, NoneRose, OneRose, rise}
+use Rattle.counted_node.specs.Causes.{AllKeep, IsAtLast, IsCounted, NoneRose, OneRose, rise}
 
 -- ---- one count, up to its last value
 

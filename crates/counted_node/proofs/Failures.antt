@@ -12,8 +12,8 @@ use Rattle.node_model.specs.Histories.{events_at, is_at}
 use Rattle.node_table.specs.Numbering.{nodes_of}
 use Rattle.shard_replica.specs.Lists.{Medium}
 use Rattle.storage_node.specs.Counting.{CountsOn}
-use Rattle.quiet_run.specs.Causes.{AllCountOn, AllKeep, HasCause, HaveCauses, IsCounted, OneRose, failures, journals_at, media_at, shows_failure}
-use Rattle.quiet_run.proofs.Rises.{counted_later, counted_more, counts_same, counts_then, keeps_on}
+use Rattle.counted_node.specs.Causes.{AllCountOn, AllKeep, HasCause, HaveCauses, IsCounted, OneRose, failures, journals_at, media_at, shows_failure}
+use Rattle.counted_node.proofs.Rises.{counted_later, counted_more, counts_same, counts_then, keeps_on}
 
 abbrev shows : Bool → Event → Bool
 shows keeps event = shows_failure keeps event.happened.mark

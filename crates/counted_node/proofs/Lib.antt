@@ -1,0 +1,5 @@
+pub mod Rises
+pub mod Failures
+pub mod Stepping
+pub mod Shown
+pub mod Starts
