@@ -61,6 +61,12 @@ module _ (config : Shape) (run : ℕ) (kept : KeptLists) where
     answers-from (before ++ e ∷ []) events all (append_assoc before (e ∷ []) events ∙ parts) (legal_push config run kept before e now next.0) next.1,
   )
 
+  -- no node answers with a stream, and what a read found was found
+  pub answers_of : (events : List Event) → IsLegal config run kept events → AreAnswers (WasFound events) events
+  answers_of events legal =
+      let first : IsLegal config run kept [] = record { config_in_range = legal.config_in_range; sound = legal.sound; follow = tt } in
+      answers-from [] events events refl first legal.follow
+
   -- no node answers with a stream
   pub singles : (before events : List Event) → AreNext config run kept before events → AllByRecursion (λ (e : Event). IsSingle e.happened.reply) events
   singles before [] next = tt
@@ -69,6 +75,4 @@ module _ (config : Shape) (run : ℕ) (kept : KeptLists) where
 
   pub streams_found : (items : List Item) (events : List Event) → IsLegal config run kept events → IsFollowed config run items events
       → AllByRecursion (EachInStream (WasFound events)) (replies_of config run items events)
-  streams_found items events legal follow =
-      let first : IsLegal config run kept [] = record { config_in_range = legal.config_in_range; sound = legal.sound; follow = tt } in
-      streams-good (WasFound events) config run items events follow (answers-from [] events events refl first legal.follow)
+  streams_found items events legal follow = streams-good (WasFound events) config run items events follow (answers_of events legal)

@@ -68,13 +68,15 @@ module _ (config : Shape) (run : ℕ) (kept : KeptLists) (founded : IsFounded co
       (each-map (IsOfSequence config kept events) (λ position entry. slice_get (sequence config kept events) position ≡ Some (Some entry))
       (λ position entry of. of.agrees.stands) reply h)
 
-  pub streams_agree_with : (items : List Item) → IsFollowed config run items events → StreamsAgree config kept events (replies_of config run items events)
-  streams_agree_with items follow =
-      let replies = replies_of config run items events in
+  -- streams whose entries were found agree with the sequence
+  pub found_streams_agree : (replies : List Reply) → AllByRecursion (EachInStream (WasFound events)) replies → StreamsAgree config kept events replies
+  found_streams_agree replies found =
       let each : AllByRecursion (EachInStream (IsOfSequence config kept events)) replies =
-      all-map (EachInStream (WasFound events)) (EachInStream (IsOfSequence config kept events)) (each-map (WasFound events) (IsOfSequence config kept events) stands) replies
-      (streams_found config run kept items events legal follow) in
+      all-map (EachInStream (WasFound events)) (EachInStream (IsOfSequence config kept events)) (each-map (WasFound events) (IsOfSequence config kept events) stands) replies found in
       record {
         each = each;
         pieces = all-map (EachInStream (IsOfSequence config kept events)) (IsPiece (sequence config kept events)) piece replies each;
       }
+
+  pub streams_agree_with : (items : List Item) → IsFollowed config run items events → StreamsAgree config kept events (replies_of config run items events)
+  streams_agree_with items follow = found_streams_agree (replies_of config run items events) (streams_found config run kept items events legal follow)

@@ -1,0 +1,15 @@
+pub mod Assembled
+pub mod Beginning
+pub mod Counting
+pub mod Full
+pub mod Handed
+pub mod Handing
+pub mod LanesBelow
+pub mod Made
+pub mod Moving
+pub mod Ordered
+pub mod Results
+pub mod SameConfig
+pub mod Sharing
+pub mod Spoken
+pub mod Taken

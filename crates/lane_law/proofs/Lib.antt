@@ -1,0 +1,4 @@
+pub mod Own
+pub mod Finding
+pub mod Fitting
+pub mod Served
