@@ -1,5 +1,6 @@
 pub mod GivenSoFar
 pub mod NoFolder
+pub mod NotBrief
 pub mod NumberText
 pub mod OneCommand
 pub mod OneSetting

@@ -6,10 +6,10 @@ use Rattle.command_words.specs.declared.offered.Offered.{Offered}
 use Rattle.command_words.specs.declared.offered.Offered.TheVariants as offered
 use Rattle.command_words.specs.Commands.{Spells}
 
--- a run with its disks in memory, a check, and items that are made
+-- a run and a cluster with their disks in memory, a check, and items that are made
 abbrev pub IsOffered : Command → Type 0
 IsOffered (Run options) = options.folder ≡ None
-IsOffered (Cluster options) = ⊥
+IsOffered (Cluster options) = options.folder ≡ None
 IsOffered Check = Unit {0}
 IsOffered (Make options seed count) = Unit {0}
 
@@ -20,5 +20,6 @@ Offers words = (command : Command) × Spells words command × IsOffered command
 -- the command that is served
 abbrev pub command_of : Offered → Command
 command_of (offered.Run options) = Run options
+command_of (offered.Cluster options) = Cluster options
 command_of offered.Check = Check
 command_of (offered.Make options seed count) = Make options seed count

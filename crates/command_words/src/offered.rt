@@ -13,6 +13,8 @@ use std::alloc::Global;
 pub enum Offered {
     /// A run with its disks in memory.
     Run(Options),
+    /// A cluster of threads with its disks in memory.
+    Cluster(Options),
     /// A check of a history.
     Check,
     /// Items that are made from a seed, as many as are counted behind those that add the shards.
@@ -41,12 +43,10 @@ fn served(command: Command) -> Option<Offered>
     ensures { MatchOption result (¬ IsOffered command) (λ offered. (command_of offered ≡ command) × IsOffered command) }
 {
     match command {
-        Command::Run(options) => {
-            if options.folder.is_some() {
-                return None;
-            }
-            Some(Offered::Run(options))
-        }
+        Command::Run(options) if options.folder.is_none() => Some(Offered::Run(options)),
+        Command::Cluster(options) if options.folder.is_none() => Some(Offered::Cluster(options)),
+        Command::Run(_) | Command::Cluster(_) => None,
+        Command::Check => Some(Offered::Check),
         Command::Make {
             options,
             seed,
@@ -56,7 +56,5 @@ fn served(command: Command) -> Option<Offered>
             seed,
             count,
         }),
-        Command::Check => Some(Offered::Check),
-        Command::Cluster(_) => None,
     }
 }

@@ -201,6 +201,10 @@ fn served_so_far(rt: HostRuntime) -> Result<(), Fail> {
             _ => panic!(rt; "{text}"),
         }
     }
+    match read_offered(rt.alloc(), &words(rt.alloc(), "cluster --workers 3")?)? {
+        Offered::Cluster(options) => assert_eq!(rt; options.workers, 3),
+        _ => panic!(rt; "cluster"),
+    }
     match read_offered(rt.alloc(), &words(rt.alloc(), "make 7 1000")?)? {
         Offered::Make { seed, count, .. } => assert_eq!(rt; (seed, count), (7, 1000)),
         _ => panic!(rt; "make"),
@@ -209,7 +213,11 @@ fn served_so_far(rt: HostRuntime) -> Result<(), Fail> {
         Offered::Check => {}
         _ => panic!(rt; "check"),
     }
-    for text in ["run --folder disks", "cluster"] {
+    for text in [
+        "run --folder disks",
+        "cluster --folder disks",
+        "cluster --brief",
+    ] {
         let read = read_offered(rt.alloc(), &words(rt.alloc(), text)?);
         assert!(rt; matches!(read, Err(WordsFault::NoCommand)), "{text}");
     }

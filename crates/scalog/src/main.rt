@@ -16,7 +16,7 @@ fn main(rt: HostRuntime) -> ExitCode {
     let mut source = Reading::new(rt.reader());
     let mut sink = Writing::new(io::writer(&rt));
     let mut rack = AnyRack::new(alloc);
-    ExitCode::from(scalog(alloc, &words, &mut source, &mut sink, &mut rack))
+    ExitCode::from(scalog(&rt, alloc, &words, &mut source, &mut sink, &mut rack))
 }
 
 /// The words after the program's name, or the status to end with where the system gives none.

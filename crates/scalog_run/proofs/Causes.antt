@@ -12,7 +12,7 @@ use Rattle.segment_journal.specs.OnDisk.{OnDisk}
 use Rattle.shard_replica.specs.Lists.{Medium, medium_at}
 use Rattle.cluster_disks.specs.Lent.{Disks, Lying, disks_at, disks_in}
 use Rattle.cluster_disks.specs.Nodes.{AreAllOf, AreStanding, GoesOn, media_under}
-use Rattle.quiet_run.specs.Causes.{AllKeep, BeginWithStarts, HaveCauses, IsCounted, NoneRose, StartsAreClean, failures, journals_at, media_at, rise}
+use Rattle.counted_node.specs.Causes.{AllKeep, BeginWithStarts, HaveCauses, IsCounted, NoneRose, StartsAreClean, failures, journals_at, media_at, rise}
 use Rattle.scalog_run.specs.Causes.{DisksKeep, HasCauses, IsOpening, IsRisen, NoDiskRose, disk_rise}
 
 -- a node has as many journals as disks

@@ -21,6 +21,7 @@ use Rattle.history_frame.specs.declared.stages.Stage.TheVariants.{Before}
 use Rattle.history_frame.specs.Frames.{Spells}
 use Rattle.history_frame.specs.Reader.{HistoryCounts, passed_limit}
 use Rattle.history_frame.specs.Widths.{EventFits, ReplyFits}
+use Rattle.lane_work.specs.Items.{lane_of}
 use Rattle.log_base.specs.ClusterShape.{Shape}
 use Rattle.log_base.specs.Shape.{shape}
 use Rattle.node_model.specs.Legal.{IsLawful, IsLegal}
@@ -51,9 +52,9 @@ use Rattle.scalog_run.specs.Checking.{SendsLawful}
 use Rattle.scalog_run.specs.declared.report.Report.TheVariants.{Full}
 use Rattle.scalog_run.specs.Histories.{IsWholeRun}
 use Rattle.scalog_run.specs.Report.{output_of}
-use Rattle.scalog_run.specs.Output.{Sends, Sinking, lane_of, reply_frames, status_of, to_send}
+use Rattle.scalog_run.specs.Output.{Sends, Sinking, reply_frames, status_of, to_send}
 use Rattle.scalog_run.specs.Run.{ComesTo, IsAnswered, Ran, World}
-use Rattle.scalog_run.proofs.SoFar.{few_items}
+use Rattle.item_input.proofs.SoFar.{few_items}
 
 -- ---- replies
 

@@ -10,7 +10,7 @@ use Rattle.storage_node.specs.Counting.{CountsOn}
 use Rattle.cluster_disks.specs.Lent.{Disks, IsLater, Lying}
 use Rattle.cluster_disks.specs.Nodes.{AreAllOf, AreStanding, GoesOn, IsHeld, media_under}
 use Rattle.cluster_disks.specs.Opened.{AreLater}
-use Rattle.quiet_run.specs.Causes.{AllCountOn, media_at}
+use Rattle.counted_node.specs.Causes.{AllCountOn, media_at}
 use Rattle.scalog_run.proofs.Causes.{AreAll, media_there, told_in}
 
 module _ {D : Type 0} (by : Disks D) where

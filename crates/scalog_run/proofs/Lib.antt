@@ -1,12 +1,13 @@
 pub mod Causes
 pub mod Checkable
 pub mod Checked
+pub mod Completing
 pub mod Empty
 pub mod Frames
 pub mod Later
 pub mod Left
-pub mod OneReading
 pub mod Quiet
 pub mod Reports
-pub mod SoFar
+pub mod SameKept
+pub mod ServedRun
 pub mod Whole

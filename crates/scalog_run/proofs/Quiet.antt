@@ -31,9 +31,9 @@ use Rattle.cluster_disks.specs.Lent.{Disks, IsDisk, Lying, disks_at, disks_in}
 use Rattle.cluster_disks.specs.Opened.{IsDamagedAt, Recovers}
 use Rattle.quiet_run.specs.declared.outcomes.DriveStop.{DriveStop}
 use Rattle.quiet_run.specs.declared.outcomes.DriveStop.TheVariants.{Limit, Memory as NoMemory}
-use Rattle.quiet_run.specs.Causes.{failures}
+use Rattle.counted_node.specs.Causes.{failures}
 use Rattle.quiet_run.specs.Unfailing.{ShowsNone}
-use Rattle.quiet_run.proofs.Rises.{last_rose_to, rose_to}
+use Rattle.counted_node.proofs.Rises.{last_rose_to, rose_to}
 use Rattle.scalog_run.specs.declared.fault.RunFault.{RunFault}
 use Rattle.scalog_run.specs.declared.fault.RunFault.TheVariants.{TooMany, Memory}
 use Rattle.scalog_run.specs.declared.report.Report.{Report}
@@ -41,13 +41,13 @@ use Rattle.scalog_run.specs.declared.report.Report.TheVariants.{Full, Brief}
 use Rattle.scalog_run.specs.Causes.{IsRisen, NoDiskRose, disk_rise}
 use Rattle.scalog_run.specs.Faults.{opening_fault, reading_fault, stopping_fault}
 use Rattle.scalog_run.specs.Histories.{AnswersTo, IsStopped, IsUnanswered, IsUnbegun, IsWholeRun}
-use Rattle.scalog_run.specs.Input.{BadPlace, Ending, ReadsAs, TooMany as EndsTooMany, Whole}
+use Rattle.item_input.specs.Input.{BadPlace, Ending, ReadsAs, TooMany as EndsTooMany, Whole}
 use Rattle.scalog_run.specs.Output.{Sends, Sinking, reply_frames, status_of, to_send}
 use Rattle.scalog_run.specs.Quiet.{AnswersAsLog, AreUnfailing, EndsAsLog, HoldsItems, HoldsNone, NothingFails, ReportsLog}
 use Rattle.scalog_run.specs.Report.{Reports}
 use Rattle.scalog_run.specs.Run.{ComesTo, Ran, World}
-use Rattle.scalog_run.specs.Steps.{Refuses}
-use Rattle.scalog_run.proofs.OneReading.{OneItem, reads_one_way}
+use Rattle.item_input.specs.Steps.{Refuses}
+use Rattle.item_input.proofs.OneReading.{OneItem, reads_one_way}
 
 -- ---- empty disks
 

@@ -40,7 +40,7 @@ use Rattle.cluster_disks.specs.Opened.{AreLater}
 use Rattle.quiet_run.specs.declared.outcomes.Driven.{Driven}
 use Rattle.quiet_run.specs.declared.outcomes.DriveStop.{DriveStop}
 use Rattle.quiet_run.specs.declared.outcomes.DriveStop.TheVariants.{Memory as NoMemory}
-use Rattle.quiet_run.specs.Causes.{AllCountOn, BeginWithStarts, HaveCauses, StartsAreClean}
+use Rattle.counted_node.specs.Causes.{AllCountOn, BeginWithStarts, HaveCauses, StartsAreClean}
 use Rattle.quiet_run.specs.Runs.{IsStoppedRun, IsStoppedWith, IsWithinLimits}
 use Rattle.quiet_run.specs.Spelled.{AreKept}
 use Rattle.quiet_run.specs.Standing.{Job, StandAfter, job, node_of}
@@ -64,7 +64,7 @@ safe_from config run kept events founded legal = record {
 }
 
 -- a range has at most eight replicas
-few_replicas : (config : Shape) → InRange config → config.replicas ≤ 8
+pub few_replicas : (config : Shape) → InRange config → config.replicas ≤ 8
 few_replicas config range = let few = range.replicas in omega arith
 
 -- nodes at their beginning stand after no event
@@ -118,7 +118,7 @@ module _ {D P : Type 0} (by : Disks D) (config : Shape) (range : InRange config)
   all_before : AreAll by config before
   all_before = all_stand by (job config run items kept) [] before (begin_so config run items kept (nodes_in before) back.start.stand)
 
-  over_disks : AreAll by config after → AllWentOver by config old new (told_in by before) (told_in by after)
+  pub over_disks : AreAll by config after → AllWentOver by config old new (told_in by before) (told_in by after)
   over_disks all = went_over by config old new before after all_before all back.standing back.back
 
   -- no count fell

@@ -6,7 +6,7 @@ use Rattle.log_base.specs.ClusterShape.{Shape}
 use Rattle.log_base.specs.Outside.{Rose}
 use Rattle.node_table.specs.Numbering.{disk_of, nodes_of}
 use Rattle.cluster_disks.specs.Lent.{Disks, Lying, disks_at}
-use Rattle.quiet_run.specs.Causes.{BeginWithStarts, failures}
+use Rattle.counted_node.specs.Causes.{BeginWithStarts, failures}
 
 -- by how much the counts of a node's first disks rose together
 abbrev pub disk_rise : {D : Type 0} → (ℕ → Lying D) → (ℕ → Lying D) → ℕ → ℕ → ℕ

@@ -1,12 +1,13 @@
 pub mod Causes
 pub mod Checking
+pub mod Complete
 pub mod Faults
 pub mod Histories
-pub mod Input
 pub mod Making
 pub mod Output
 pub mod Quiet
 pub mod Report
 pub mod Run
-pub mod Steps
+pub mod RunCluster
+pub mod Served
 pub mod Words

@@ -1,11 +1,11 @@
 -- What a run sends: the frames of its replies and its history, or the frame of a fault.
-use Rattle.std.specs.Prelude.{◌≡◌, ◌⊎◌, ℕ, List, [], ◌∷◌, ◌++◌, take, Option, Some, None, Result, Ok, Err}
+use Rattle.std.specs.Prelude.{◌≡◌, ◌⊎◌, ℕ, List, [], ◌∷◌, ◌++◌, map, take, Option, Some, None, Result, Ok, Err}
 use Rattle.std.specs.Io.KnownBytes.{Appends}
 use Rattle.command_frame.specs.declared.items.Item.{Item}
-use Rattle.command_frame.specs.declared.items.Item.TheVariants.{Append, Read, Subscribe, Trim, Add, Finalise, Ask, Fault}
 use Rattle.reply_frame.specs.declared.replies.Reply.{Reply}
 use Rattle.reply_frame.specs.Frames.{frame}
 use Rattle.reply_frame.specs.Replies.{reply_spelling}
+use Rattle.lane_work.specs.Items.{lane_of}
 use Rattle.log_base.specs.Outside.{Rose}
 use Rattle.log_base.specs.Wide.{be4, be8}
 use Rattle.scalog_run.specs.declared.fault.FaultFrame.{FaultFrame}
@@ -14,22 +14,15 @@ use Rattle.scalog_run.specs.declared.fault.RunFault.TheVariants.{BadInput, Unrea
 
 -- ---- the output
 
--- the lane of an item
-abbrev pub lane_of : Item → ℕ
-lane_of (Append lane shard replica bytes) = lane
-lane_of (Read lane shard replica position) = lane
-lane_of (Subscribe lane shard replica from count) = lane
-lane_of (Trim lane position) = lane
-lane_of (Add lane shard) = lane
-lane_of (Finalise lane shard) = lane
-lane_of (Ask lane) = lane
-lane_of (Fault lane line) = lane
+-- the frames of replies, each behind its lane
+abbrev pub lane_frames : List ℕ → List Reply → List ℕ
+lane_frames [] replies = []
+lane_frames (lane ∷ lanes) [] = []
+lane_frames (lane ∷ lanes) (reply ∷ replies) = reply_spelling lane reply ++ lane_frames lanes replies
 
 -- the frames of the replies to items, in order of the items
 abbrev pub reply_frames : List Item → List Reply → List ℕ
-reply_frames [] replies = []
-reply_frames (item ∷ items) [] = []
-reply_frames (item ∷ items) (reply ∷ replies) = reply_spelling (lane_of item) reply ++ reply_frames items replies
+reply_frames items replies = lane_frames (map lane_of items) replies
 
 -- ---- the frames of faults
 

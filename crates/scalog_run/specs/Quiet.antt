@@ -16,7 +16,7 @@ use Rattle.quiet_run.specs.declared.outcomes.DriveStop.TheVariants.{Limit}
 use Rattle.scalog_run.specs.declared.report.Report.{Report}
 use Rattle.scalog_run.specs.declared.report.Report.TheVariants.{Full, Brief}
 use Rattle.scalog_run.specs.Histories.{IsStopped, IsWholeRun}
-use Rattle.scalog_run.specs.Input.{counts_of}
+use Rattle.item_input.specs.Input.{counts_of}
 use Rattle.scalog_run.specs.Output.{Sinking, fault_frame, fault_spelling, reply_frames}
 use Rattle.scalog_run.specs.Report.{Reports}
 use Rattle.scalog_run.specs.Run.{World}

@@ -11,7 +11,7 @@ use Rattle.scalog_run.specs.Histories.{AnswersTo}
 use Rattle.cluster_disks.specs.Lent.{Disks, Lying}
 use Rattle.cluster_disks.specs.Opened.{AreLater}
 use Rattle.scalog_run.specs.Output.{Sends, Sinking, status_of, to_send}
-use Rattle.scalog_run.specs.Steps.{IsRead, Refuses}
+use Rattle.item_input.specs.Steps.{IsRead, Refuses}
 
 -- what a source has left and its count of faults, and what lies in the rack under each number
 pub record World (D : Type 0) : Type 0 where

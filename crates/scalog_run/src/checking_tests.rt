@@ -24,7 +24,7 @@ const OTHER_RECORD: &str =
     "000000296200000203000000000000000000000000030000000000000000000000000001000000000000000162";
 
 /// What a check of a source comes to, whose pieces have 16 bytes.
-fn check_on(
+pub(crate) fn check_on(
     alloc: Global,
     input: &[u8],
     failing_read: u32,
@@ -55,7 +55,7 @@ fn replaced(alloc: Global, bytes: &[u8], frame: &str, other: &str) -> Result<Vec
 #[test]
 fn outputs_are_judged(rt: HostRuntime) -> Result<(), Fail> {
     runs_are_lawful::<MemoryDisk>();
-    let run = run_anew(&rt, &RUN, ADD_APPEND_READ)?;
+    let run = run_anew(&rt, rt.alloc(), &RUN, ADD_APPEND_READ)?;
     let table = [
         ("the run", HEAD, HEAD, status::DONE, "000000056300000076"),
         (
@@ -91,7 +91,7 @@ fn outputs_are_judged(rt: HostRuntime) -> Result<(), Fail> {
 
 #[test]
 fn faults_of_a_check_are_told(rt: HostRuntime) -> Result<(), Fail> {
-    let run = run_anew(&rt, &RUN, ADD_APPEND_READ)?;
+    let run = run_anew(&rt, rt.alloc(), &RUN, ADD_APPEND_READ)?;
     let read = check_on(rt.alloc(), &run.sent, 1, NEVER)?;
     assert_eq!(rt; read.status, status::READ_FAULT);
     assert_eq!(rt;

@@ -2,7 +2,10 @@
 
 use crate::status;
 use crate::tests::{RUN, run_anew};
+use std::alloc::Global;
+use std::sync::Wait;
 use std::test::Fail;
+use std::thread::Threads;
 
 /// One storage node and one gatherer, and three orderers, nodes 2 to 4.
 const ONE_OF_EACH: [&str; 5] = ["run", "--replicas", "1", "--shards", "1"];
@@ -131,9 +134,9 @@ type Row = (
 );
 
 /// Whether the items of a row have its replies, and its history tells what it is to tell.
-fn is_answered(rt: &HostRuntime, row: &Row) -> Result<bool, Fail> {
+fn is_answered<R: Threads + Wait + Sync>(rt: &R, alloc: Global, row: &Row) -> Result<bool, Fail> {
     let (_, words, input, replies, told) = row;
-    let outcome = run_anew(rt, words, input)?;
+    let outcome = run_anew(rt, alloc, words, input)?;
     let Some(history) = outcome.sent.strip_prefix(*replies) else {
         return Ok(false);
     };
@@ -185,7 +188,7 @@ fn holds_are_answered(rt: HostRuntime) -> Result<(), Fail> {
         ),
     ];
     for row in &table {
-        assert!(rt; is_answered(&rt, row)?, "{}", row.0);
+        assert!(rt; is_answered(&rt, rt.alloc(), row)?, "{}", row.0);
     }
     Ok(())
 }
@@ -216,7 +219,7 @@ fn failing_nodes_are_answered(rt: HostRuntime) -> Result<(), Fail> {
         ),
     ];
     for row in &table {
-        assert!(rt; is_answered(&rt, row)?, "{}", row.0);
+        assert!(rt; is_answered(&rt, rt.alloc(), row)?, "{}", row.0);
     }
     Ok(())
 }
@@ -247,7 +250,7 @@ fn picked_letters_are_answered(rt: HostRuntime) -> Result<(), Fail> {
         ),
     ];
     for row in &table {
-        assert!(rt; is_answered(&rt, row)?, "{}", row.0);
+        assert!(rt; is_answered(&rt, rt.alloc(), row)?, "{}", row.0);
     }
     Ok(())
 }

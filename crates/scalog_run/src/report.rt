@@ -7,6 +7,7 @@ ghost use Rattle.history_frame.specs.Spelling.{IsHistory};
 ghost use Rattle.scalog_run.specs.Report.{report_bytes, report_for, summary_line, summary_of};
 
 use crate::writing::write_output;
+use cluster_run::lanes_of;
 use command_frame::Item;
 use command_words::Options;
 use log_base::{Memory, Position};
@@ -41,7 +42,10 @@ impl Report {
         ensures { IfOk result (λ bytes. bytes.items ≡ report_bytes self items.now driven.now) }
     {
         match self {
-            Report::Full => write_output(alloc, items, driven.replies.get(), &driven.history),
+            Report::Full => {
+                let lanes = lanes_of(alloc, items)?;
+                write_output(alloc, &lanes, driven.replies.get(), &driven.history)
+            }
             Report::Brief => {
                 let line = Summary::of(items, driven).line(alloc)?;
                 Ok(line.into_bytes())

@@ -1,36 +1,39 @@
 //! The top calls.
 
-ghost use Rattle.std.specs.Prelude.{◌≡◌, ◌⊎◌, ℕ, ◌≤◌, List, None, Some, Ok, Err, IfOk, IfErr, false, map, string_bytes};
-ghost use Rattle.log_base.specs.ClusterShape.{InRange, Shape};
+ghost use Rattle.std.specs.Prelude.{◌≡◌, ◌⊎◌, ℕ, ◌≤◌, None, Ok, Err, IfOk, IfErr, false, map, string_bytes};
 ghost use Rattle.log_base.specs.Shape.{shape};
 ghost use Rattle.disk_base.specs.Lending.{NumberStays};
-ghost use Rattle.command_frame.specs.declared.items.Item.{Item};
 ghost use Rattle.command_words.specs.Commands.{Spells};
 ghost use Rattle.command_words.specs.Offered.{IsOffered, Offers};
-ghost use Rattle.command_words.specs.declared.command.Command.TheVariants.{Check, Make, Run};
+ghost use Rattle.command_words.specs.declared.command.Command.TheVariants.{Check, Cluster, Make, Run};
 ghost use Rattle.command_words.specs.declared.command.Options.{Options};
-ghost use Rattle.scalog_run.specs.Input.{Ending, ReadsAs};
 ghost use Rattle.cluster_disks.specs.Lent.{IsDisk, StaysBut, disks, lain};
 ghost use Rattle.cluster_disks.specs.Opened.{AreLater};
 ghost use Rattle.scalog_run.specs.Checking.{Checked, sourcing};
+ghost use Rattle.scalog_run.specs.Complete.{ServesAll};
 ghost use Rattle.scalog_run.specs.Making.{SendsMade};
 ghost use Rattle.scalog_run.specs.Output.{Sends, bad_words, fault_spelling, sinking};
 ghost use Rattle.scalog_run.specs.Quiet.{AnswersAsLog};
 ghost use Rattle.scalog_run.specs.Report.{report_for};
 ghost use Rattle.scalog_run.specs.Run.{ComesTo, Ran, world};
+ghost use Rattle.scalog_run.specs.RunCluster.{RanCluster};
 ghost use Rattle.scalog_run.specs.Words.{IsUnheard, IsUnused};
 
 use crate::answering::answer_items;
 use crate::checking::check_history;
 use crate::fault::{FaultFrame, RunFault};
 use crate::making::make_items;
-use crate::reading::read_items;
 use crate::sending::{send_bytes, send_fault, send_frame};
+use crate::serving::run_cluster;
 use crate::status;
 use command_words::{Offered, Options, WordsFault, read_offered};
 use disk_base::Rack;
+use item_input::read_items;
 use log_base::{Sink, Source};
+use node_threads::OpenGate;
 use std::alloc::Global;
+use std::sync::Wait;
+use std::thread::Threads;
 
 /// What tells that the words are no command.
 const NO_COMMAND: FaultFrame = FaultFrame {
@@ -41,8 +44,9 @@ const NO_COMMAND: FaultFrame = FaultFrame {
 };
 
 /// Does all that the program does, and answers its status. The words are those after the program's
-/// name.
-pub fn scalog<S: Source, K: Sink, Q: Rack>(
+/// name. A cluster runs in threads, and so it may wait.
+pub fn scalog<R: Threads + Wait + Sync, S: Source, K: Sink, Q: Rack>(
+    rt: &R,
     alloc: Global,
     words: &[String],
     source: &mut S,
@@ -68,6 +72,16 @@ where
         (world (S.left source.old) (S.faults source.old) (lain Q.disk_at Q.disk_faults Q.faults rack.old))
         (world (S.left source.new) (S.faults source.new) (lain Q.disk_at Q.disk_faults Q.faults rack.new))
         (sinking (K.taken sink.old) (K.faults sink.old)) (sinking (K.taken sink.new) (K.faults sink.new)) result }
+    ensures cluster { (options : Options) → Spells (map string_bytes words.now) (Cluster options) → IsOffered (Cluster options)
+        → RanCluster (disks Q.D.reads Q.D.may_leave Q.D.keeps_synced Q.D.faults) (shape options.config) options.run options.workers
+        (world (S.left source.old) (S.faults source.old) (lain Q.disk_at Q.disk_faults Q.faults rack.old))
+        (world (S.left source.new) (S.faults source.new) (lain Q.disk_at Q.disk_faults Q.faults rack.new))
+        (sinking (K.taken sink.old) (K.faults sink.old)) (sinking (K.taken sink.new) (K.faults sink.new)) result }
+    ensures complete { (options : Options) → Spells (map string_bytes words.now) (Cluster options) → IsOffered (Cluster options)
+        → ServesAll (disks Q.D.reads Q.D.may_leave Q.D.keeps_synced Q.D.faults) (shape options.config) options.run options.workers
+        (world (S.left source.old) (S.faults source.old) (lain Q.disk_at Q.disk_faults Q.faults rack.old))
+        (world (S.left source.new) (S.faults source.new) (lain Q.disk_at Q.disk_faults Q.faults rack.new))
+        (sinking (K.taken sink.old) (K.faults sink.old)) (sinking (K.taken sink.new) (K.faults sink.new)) result }
     ensures check { Spells (map string_bytes words.now) Check
         → Checked (sourcing (S.left source.old) (S.faults source.old)) (sourcing (S.left source.new) (S.faults source.new))
         (sinking (K.taken sink.old) (K.faults sink.old)) (sinking (K.taken sink.new) (K.faults sink.new)) result }
@@ -87,6 +101,9 @@ where
     };
     match command {
         Offered::Run(options) => run_items(alloc, &options, source, sink, rack),
+        Offered::Cluster(options) => {
+            run_cluster(rt, alloc, &options, source, sink, rack, &OpenGate)
+        }
         Offered::Check => check_history(alloc, source, sink),
         Offered::Make {
             options,
@@ -150,9 +167,3 @@ where
     let items = read_items(alloc, options.config, source)?;
     answer_items(alloc, options, &items, rack)
 }
-
-/// An input reads in one way: it has one list of items at its front, and one ending.
-pub fn one_reading()
-    ensures { (shape : Shape) (bytes : List ℕ) (items others : List Item) (ending other : Ending) → InRange shape
-        → ReadsAs shape (Some bytes) items ending → ReadsAs shape (Some bytes) others other → (items ≡ others) × (ending ≡ other) }
-{}

@@ -52,7 +52,7 @@ fn streams_end_where_the_reply_is_full(rt: HostRuntime) -> Result<(), Fail> {
         input.extend_from_slice(&record)?;
     }
     input.extend_from_slice(SUBSCRIPTION)?;
-    let outcome = run_anew(&rt, &SMALLEST, &input)?;
+    let outcome = run_anew(&rt, rt.alloc(), &SMALLEST, &input)?;
     assert_eq!(rt; outcome.status, status::DONE);
     let (_, stream) = outcome.sent.split_at_checked(ANSWERS).ok_or("answers")?;
     let entries = stream.strip_prefix(STREAM).ok_or("stream")?;
@@ -64,9 +64,9 @@ fn streams_end_where_the_reply_is_full(rt: HostRuntime) -> Result<(), Fail> {
 // Each append of a long run has its place, and the same items come to the same.
 #[test]
 fn made_items_come_to_the_same(rt: HostRuntime) -> Result<(), Fail> {
-    let made = run_anew(&rt, &MADE, b"")?;
-    let first = run_anew(&rt, &BRIEF, &made.sent)?;
-    let second = run_anew(&rt, &BRIEF, &made.sent)?;
+    let made = run_anew(&rt, rt.alloc(), &MADE, b"")?;
+    let first = run_anew(&rt, rt.alloc(), &BRIEF, &made.sent)?;
+    let second = run_anew(&rt, rt.alloc(), &BRIEF, &made.sent)?;
     assert_eq!(rt; first.status, status::DONE);
     assert_eq!(rt; second.status, status::DONE);
     assert_eq!(rt; first.sent.as_slice(), second.sent.as_slice());

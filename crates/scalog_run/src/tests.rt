@@ -5,7 +5,10 @@ ghost use Rattle.std.specs.Prelude.{◌<◌};
 use crate::{scalog, status};
 use disk_base::{Disk, MemoryDisk, MemoryRack, Plan};
 use log_base::{MemorySink, MemorySource};
+use std::alloc::Global;
+use std::sync::Wait;
 use std::test::Fail;
+use std::thread::Threads;
 
 // Two replicas of each of two shards, three orderers and one gatherer.
 pub(crate) const RUN: [&str; 1] = ["run"];
@@ -119,15 +122,15 @@ pub(crate) struct Outcome {
     pub(crate) sent: Vec<u8>,
 }
 
-fn run_on(
-    rt: &HostRuntime,
+fn run_on<R: Threads + Wait + Sync>(
+    rt: &R,
+    alloc: Global,
     words: &[&str],
     input: &[u8],
     failing_read: u32,
     failing_write: u32,
     rack: &mut MemoryRack,
 ) -> Result<Outcome, Fail> {
-    let alloc = rt.alloc();
     let mut texts = Vec::new(alloc);
     for word in words {
         texts.push(String::from_str(alloc, word)?)?;
@@ -138,14 +141,19 @@ fn run_on(
     let mut sink = MemorySink::new(alloc, 16_777_216, 4, fails)
         .ok()
         .ok_or("memory")?;
-    let status = scalog(alloc, &texts, &mut source, &mut sink, rack);
+    let status = scalog(rt, alloc, &texts, &mut source, &mut sink, rack);
     let sent = Vec::from_slice(alloc, sink.bytes())?;
     Ok(Outcome { status, sent })
 }
 
-pub(crate) fn run_anew(rt: &HostRuntime, words: &[&str], input: &[u8]) -> Result<Outcome, Fail> {
-    let mut rack = MemoryRack::new(rt.alloc());
-    run_on(rt, words, input, NEVER, NEVER, &mut rack)
+pub(crate) fn run_anew<R: Threads + Wait + Sync>(
+    rt: &R,
+    alloc: Global,
+    words: &[&str],
+    input: &[u8],
+) -> Result<Outcome, Fail> {
+    let mut rack = MemoryRack::new(alloc);
+    run_on(rt, alloc, words, input, NEVER, NEVER, &mut rack)
 }
 
 // How many frames of a kind stand in the bytes.
@@ -192,7 +200,7 @@ fn inputs_are_answered(rt: HostRuntime) -> Result<(), Fail> {
         ),
     ];
     for (name, input, replies, events) in table {
-        let outcome = run_anew(&rt, &RUN, input)?;
+        let outcome = run_anew(&rt, rt.alloc(), &RUN, input)?;
         assert_eq!(rt; outcome.status, status::DONE, "{name}");
         assert!(rt; outcome.sent.starts_with(replies), "{name}");
         let history = &outcome.sent[replies.len()..];
@@ -227,7 +235,7 @@ fn lines_and_made_inputs_are_sent(rt: HostRuntime) -> Result<(), Fail> {
         (MAKE.as_slice(), b"", MADE),
     ];
     for (words, input, sent) in table {
-        let outcome = run_anew(&rt, words, input)?;
+        let outcome = run_anew(&rt, rt.alloc(), words, input)?;
         assert_eq!(rt; outcome.status, status::DONE);
         assert_eq!(rt; outcome.sent.as_slice(), sent);
     }
@@ -238,13 +246,29 @@ fn lines_and_made_inputs_are_sent(rt: HostRuntime) -> Result<(), Fail> {
 #[test]
 fn disks_go_on(rt: HostRuntime) -> Result<(), Fail> {
     let mut rack = MemoryRack::new(rt.alloc());
-    let first = run_on(&rt, &RUN, ADD_APPEND_READ, NEVER, NEVER, &mut rack)?;
+    let first = run_on(
+        &rt,
+        rt.alloc(),
+        &RUN,
+        ADD_APPEND_READ,
+        NEVER,
+        NEVER,
+        &mut rack,
+    )?;
     assert_eq!(rt; first.status, status::DONE);
     for number in [0, 8] {
         let disk = rack.disk(number).ok_or("disk")?;
         assert_eq!(rt; disk.bytes(), ENTRY, "disk {number}");
     }
-    let second = run_on(&rt, &SECOND_RUN, READ_APPEND, NEVER, NEVER, &mut rack)?;
+    let second = run_on(
+        &rt,
+        rt.alloc(),
+        &SECOND_RUN,
+        READ_APPEND,
+        NEVER,
+        NEVER,
+        &mut rack,
+    )?;
     assert_eq!(rt; second.status, status::DONE);
     assert!(rt; second.sent.starts_with(FOUND_AT));
     let history = &second.sent[FOUND_AT.len()..];
@@ -276,7 +300,7 @@ fn bad_inputs_are_refused(rt: HostRuntime) -> Result<(), Fail> {
         ("ten bytes", &ADD_APPEND_READ[..10], 8),
     ];
     for (name, input, place) in table {
-        let outcome = run_anew(&rt, &RUN, input)?;
+        let outcome = run_anew(&rt, rt.alloc(), &RUN, input)?;
         let frame = [
             0, 0, 0, 15, 0x7f, 3, 0, 0, 0, 0, 0, 0, 0, 0, 0, 0, 0, 0, place,
         ];
@@ -296,7 +320,7 @@ fn words_and_faults_are_told(rt: HostRuntime) -> Result<(), Fail> {
         &["check", "--brief"],
     ];
     for words in words {
-        let outcome = run_anew(&rt, words, ADD_APPEND_READ)?;
+        let outcome = run_anew(&rt, rt.alloc(), words, ADD_APPEND_READ)?;
         assert_eq!(rt; outcome.status, status::BAD_WORDS);
         assert_eq!(rt;
             outcome.sent.as_slice(),
@@ -304,13 +328,13 @@ fn words_and_faults_are_told(rt: HostRuntime) -> Result<(), Fail> {
         );
     }
     let mut rack = MemoryRack::new(rt.alloc());
-    let read = run_on(&rt, &RUN, ADD_APPEND_READ, 3, NEVER, &mut rack)?;
+    let read = run_on(&rt, rt.alloc(), &RUN, ADD_APPEND_READ, 3, NEVER, &mut rack)?;
     assert_eq!(rt; read.status, status::READ_FAULT);
     assert_eq!(rt;
         read.sent.as_slice(),
         b"\0\0\0\x0f\x7f\x04\0\0\0\0\0\0\0\0\0\0\0\0\x0f".as_slice()
     );
-    let write = run_on(&rt, &RUN, ADD_APPEND_READ, NEVER, 1, &mut rack)?;
+    let write = run_on(&rt, rt.alloc(), &RUN, ADD_APPEND_READ, NEVER, 1, &mut rack)?;
     assert_eq!(rt; write.status, status::WRITE_FAULT);
     assert_eq!(rt; write.sent.as_slice(), b"\0\0\0\x07".as_slice());
     Ok(())
@@ -331,7 +355,7 @@ fn bad_disks_are_told(rt: HostRuntime) -> Result<(), Fail> {
         let mut rack = MemoryRack::new(rt.alloc());
         let disk = MemoryDisk::of(rt.alloc(), bytes.to_vec(rt.alloc())?);
         rack.place(u32::from(number), disk).ok().ok_or("place")?;
-        let outcome = run_on(&rt, words, ADD, NEVER, NEVER, &mut rack)?;
+        let outcome = run_on(&rt, rt.alloc(), words, ADD, NEVER, NEVER, &mut rack)?;
         let frame = [
             0, 0, 0, 15, 0x7f, 6, 1, 0, 0, 0, number, 0, 0, 0, 0, 0, 0, 0, 0,
         ];
@@ -353,7 +377,7 @@ fn failing_disks_are_told(rt: HostRuntime) -> Result<(), Fail> {
         lose: false,
     });
     rack.place(8, disk).ok().ok_or("place")?;
-    let outcome = run_on(&rt, &RUN, ADD, NEVER, NEVER, &mut rack)?;
+    let outcome = run_on(&rt, rt.alloc(), &RUN, ADD, NEVER, NEVER, &mut rack)?;
     assert_eq!(rt; outcome.status, status::DISK_FAULT);
     assert_eq!(rt;
         outcome.sent.as_slice(),
@@ -363,10 +387,14 @@ fn failing_disks_are_told(rt: HostRuntime) -> Result<(), Fail> {
 }
 
 // Frames of an Append of this many bytes behind an Add, and what comes of them.
-fn long_record(rt: &HostRuntime, size: usize) -> Result<Outcome, Fail>
+fn long_record<R: Threads + Wait + Sync>(
+    rt: &R,
+    alloc: Global,
+    size: usize,
+) -> Result<Outcome, Fail>
     requires { size < 70000 }
 {
-    let mut input = Vec::from_slice(rt.alloc(), ADD)?;
+    let mut input = Vec::from_slice(alloc, ADD)?;
     let length = size + 5;
     for byte in [0, length / 65_536 % 256, length / 256 % 256, length % 256] {
         input.push(byte as u8)?;
@@ -375,13 +403,13 @@ fn long_record(rt: &HostRuntime, size: usize) -> Result<Outcome, Fail>
     for _ in 0..size {
         input.push(7)?;
     }
-    run_anew(rt, &RUN, &input)
+    run_anew(rt, alloc, &RUN, &input)
 }
 
 #[test]
 fn limits_are_those_that_are_stated(rt: HostRuntime) -> Result<(), Fail> {
-    assert_eq!(rt; long_record(&rt, 65_535)?.status, status::DONE);
-    let long = long_record(&rt, 65_536)?;
+    assert_eq!(rt; long_record(&rt, rt.alloc(), 65_535)?.status, status::DONE);
+    let long = long_record(&rt, rt.alloc(), 65_536)?;
     assert_eq!(rt; long.status, status::BAD_INPUT);
     assert_eq!(rt;
         long.sent.as_slice(),
@@ -391,7 +419,7 @@ fn limits_are_those_that_are_stated(rt: HostRuntime) -> Result<(), Fail> {
     for _ in 0..65_537 {
         input.extend_from_slice(ADD)?;
     }
-    let many = run_anew(&rt, &RUN, &input)?;
+    let many = run_anew(&rt, rt.alloc(), &RUN, &input)?;
     assert_eq!(rt; many.status, status::TOO_MANY);
     assert_eq!(rt;
         many.sent.as_slice(),

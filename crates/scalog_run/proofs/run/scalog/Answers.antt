@@ -1,22 +1,28 @@
-use Rattle.std.proofs.Common.{◌≡◌, ℕ, List, Option, Some, None, IsSome, map, string_bytes, subst}
+use Rattle.std.proofs.Common.{◌≡◌, inl, inr, ℕ, List, Option, Some, None, IsSome, map, string_bytes, subst}
 use Rattle.log_base.specs.Shape.{shape}
 use Rattle.command_words.specs.Commands.{Spells}
 use Rattle.command_words.specs.Offered.{command_of}
-use Rattle.command_words.specs.declared.command.Command.TheVariants.{Check, Make, Run}
+use Rattle.command_words.specs.declared.command.Command.TheVariants.{Check, Cluster, Make, Run}
 use Rattle.command_words.specs.declared.command.Options.{Options}
 use Rattle.command_words.specs.declared.offered.Offered.{Offered}
+use Rattle.command_words.proofs.NotBrief.{cluster_not_brief}
 use Rattle.command_words.proofs.OneCommand.{one_command}
 use Rattle.cluster_disks.specs.Lent.{disks, lain}
 use Rattle.scalog_run.specs.Making.{SendsMade}
 use Rattle.scalog_run.specs.Output.{Sinking, sinking}
 use Rattle.scalog_run.specs.Report.{report_for}
 use Rattle.scalog_run.specs.Run.{Ran, world}
+use Rattle.scalog_run.specs.RunCluster.{RanCluster}
+use Rattle.scalog_run.proofs.Completing.{serves_all}
 use Rattle.scalog_run.proofs.Quiet.{answers_as_log}
 use Rattle.scalog_run.proofs.run.scalog.Goals as goal
 
 -- the words have one list of options
 one_run : (words : List (List ℕ)) (options others : Options) → Spells words (Run options) → Spells words (Run others) → options ≡ others
 one_run words options others spells other_spells = (let same = one_command words (Run options) (Run others) spells other_spells in cc)
+
+one_cluster : (words : List (List ℕ)) (options others : Options) → Spells words (Cluster options) → Spells words (Cluster others) → options ≡ others
+one_cluster words options others spells other_spells = (let same = one_command words (Cluster options) (Cluster others) spells other_spells in cc)
 
 -- what they ask to be made is one input
 one_input : (words : List (List ℕ)) (options others : Options) (seed count other_seed other_count : ℕ) (old new : Sinking) (status : ℕ)
@@ -54,6 +60,27 @@ returns-in-Err-Memory-clause-command g c options spells offered =
 pub returns-in-Err-Memory-clause-check : goal.returns-in-Err-Memory-clause-check
 returns-in-Err-Memory-clause-check g c spells = absurd (c.in-Err-Memory.ensures.memory (cc) Check spells)
 
+-- they are no cluster then
+pub returns-in-Err-NoCommand-clause-cluster : goal.returns-in-Err-NoCommand-clause-cluster
+returns-in-Err-NoCommand-clause-cluster g c options spells offered = absurd (c.in-Err-NoCommand.ensures.none (cc) (Cluster options, spells, offered))
+
+pub returns-in-Err-NoCommand-clause-complete : goal.returns-in-Err-NoCommand-clause-complete
+returns-in-Err-NoCommand-clause-complete g c options spells offered = absurd (c.in-Err-NoCommand.ensures.none (cc) (Cluster options, spells, offered))
+
+pub returns-in-Err-Memory-clause-cluster : goal.returns-in-Err-Memory-clause-cluster
+returns-in-Err-Memory-clause-cluster g c options spells offered =
+    absurd (no_folder options.folder offered (c.in-Err-Memory.ensures.memory (cc) (Cluster options) spells))
+
+pub returns-in-Err-Memory-clause-complete : goal.returns-in-Err-Memory-clause-complete
+returns-in-Err-Memory-clause-complete g c options spells offered =
+    absurd (no_folder options.folder offered (c.in-Err-Memory.ensures.memory (cc) (Cluster options) spells))
+
+-- a cluster has a full report
+pub run_cluster-requires-clause-full : goal.run_cluster-requires-clause-full
+run_cluster-requires-clause-full g c κs within =
+    let served = subst (λ (o : Offered). Spells (map string_bytes c.args.words.now) (command_of o)) c.in-Cluster.is c.in-Ok.ensures.ok.0 in
+    cluster_not_brief served.0 c.in-Cluster.options served.2
+
 -- the words are a run
 pub returns-in-Run-clause-command : goal.returns-in-Run-clause-command
 returns-in-Run-clause-command g c options spells offered =
@@ -71,7 +98,30 @@ pub returns-in-Run-clause-others : goal.returns-in-Run-clause-others
 returns-in-Run-clause-others g c number unused =
     let words = map string_bytes c.args.words.now in
     let served = subst (λ (o : Offered). Spells words (command_of o)) c.in-Run.is c.in-Ok.ensures.ok.0 in
-    c.run_items.ensures.others number (unused c.in-Run.options served)
+    c.run_items.ensures.others number (unused c.in-Run.options (inl served))
+
+-- the words are a cluster
+pub returns-in-Cluster-clause-cluster : goal.returns-in-Cluster-clause-cluster
+returns-in-Cluster-clause-cluster g c options spells offered =
+    let words = map string_bytes c.args.words.now in
+    let served = subst (λ (o : Offered). Spells words (command_of o)) c.in-Cluster.is c.in-Ok.ensures.ok.0 in
+    let same = one_cluster words c.in-Cluster.options options served spells in
+    let under = lain g.Q.Rack.disk_at g.Q.Rack.disk_faults g.Q.Rack.faults in
+    subst (λ (o : Options). RanCluster (disks g.Q.D.Disk.reads g.Q.D.Disk.may_leave g.Q.D.Disk.keeps_synced g.Q.D.Disk.faults) (shape o.config) o.run o.workers
+    (world (g.S.Source.left c.args.source.now) (g.S.Source.faults c.args.source.now) (under c.args.rack.now))
+    (world (g.S.Source.left c.run_cluster.new.source) (g.S.Source.faults c.run_cluster.new.source) (under c.run_cluster.new.rack))
+    (sinking (g.K.Sink.taken c.args.sink.now) (g.K.Sink.faults c.args.sink.now)) (sinking (g.K.Sink.taken c.run_cluster.new.sink) (g.K.Sink.faults c.run_cluster.new.sink))
+    c.run_cluster.result) same c.run_cluster.ensures.cluster
+
+pub returns-in-Cluster-clause-complete : goal.returns-in-Cluster-clause-complete
+returns-in-Cluster-clause-complete g c options spells offered =
+    serves_all _ (shape options.config) options.config.in_range options.run options.workers _ _ _ _ _ (returns-in-Cluster-clause-cluster g c options spells offered)
+
+pub returns-in-Cluster-clause-others : goal.returns-in-Cluster-clause-others
+returns-in-Cluster-clause-others g c number unused =
+    let words = map string_bytes c.args.words.now in
+    let served = subst (λ (o : Offered). Spells words (command_of o)) c.in-Cluster.is c.in-Ok.ensures.ok.0 in
+    c.run_cluster.ensures.others number (unused c.in-Cluster.options (inr served))
 
 -- the words make an input
 pub returns-in-Make-clause-make : goal.returns-in-Make-clause-make

@@ -11,8 +11,8 @@ use Rattle.reply_frame.specs.declared.faults.ItemFault.{ItemFault}
 use Rattle.reply_frame.specs.declared.faults.ItemFault.TheVariants.{Bad, Read, Many, Memory}
 use Rattle.command_frame.specs.Items.{Counts, none_yet, counted, passed_limit, item_spelling, IsItem}
 use Rattle.command_frame.specs.Reader.{NoItem}
-use Rattle.scalog_run.specs.Input.{counts_from, counts_of, Ending, Whole, BadPlace, TooMany, EndsAs, ReadsAs}
-use Rattle.scalog_run.specs.Steps.{Standing, Takes, IsOver, IsRead, Steps, Refuses}
+use Rattle.item_input.specs.Input.{counts_from, counts_of, Ending, Whole, BadPlace, TooMany, EndsAs, ReadsAs}
+use Rattle.item_input.specs.Steps.{Standing, Takes, IsOver, IsRead, Steps, Refuses}
 
 -- what holds after some items
 pub record SoFar (shape : Shape) (input : Option (List ℕ)) (now : Standing) : Type 0 where
@@ -24,7 +24,7 @@ pub record SoFar (shape : Shape) (input : Option (List ℕ)) (now : Standing) : 
 
 -- ---- one item more at the end
 
-each-push : (P : Item → Type 0) (items : List Item) (item : Item) → AllByRecursion P items → P item → AllByRecursion P (items ++ item ∷ [])
+pub each-push : (P : Item → Type 0) (items : List Item) (item : Item) → AllByRecursion P items → P item → AllByRecursion P (items ++ item ∷ [])
 each-push P [] item each last = (last, tt)
 each-push P (first ∷ items) item each last = (each.0, each-push P items item each.1 last)
 
@@ -100,7 +100,7 @@ ends_so shape (Some bytes) None items ending used each within follows = absurd u
 ends_so shape (Some bytes) (Some rest) items ending used each within follows =
     record { each = each; within = within; bytes = (rest, used, follows rest refl) }
 
-within_counts : (shape : Shape) (input : Option (List ℕ)) (now : Standing) (so_far : SoFar shape input now) → passed_limit (counts_of now.items) ≡ None
+pub within_counts : (shape : Shape) (input : Option (List ℕ)) (now : Standing) (so_far : SoFar shape input now) → passed_limit (counts_of now.items) ≡ None
 within_counts shape input now so_far = subst (λ (c : Counts). passed_limit c ≡ None) so_far.counts so_far.within
 
 -- at the end nothing is pending, so what is unread is what the source has left
@@ -129,21 +129,16 @@ all_read shape input old new pending left e so_far over =
     })
 
 -- no item stands there
-pub bad_place : (shape : Shape) (input : Option (List ℕ)) (now : Standing) (at : ℕ) → SoFar shape input now → NoItem shape now.unread → at ≡ now.place
-    → (items : List Item) × ReadsAs shape input items BadPlace × (at ≡ length (flat_map item_spelling items))
-bad_place shape input now at so_far none here = (
-  now.items,
-  ends_so shape input now.unread now.items BadPlace so_far.used so_far.each (within_counts shape input now so_far)
-      (λ rest e. subst (NoItem shape) e none),
-  here ∙ so_far.place,
-)
+pub bad_place : (shape : Shape) (input : Option (List ℕ)) (now : Standing) → SoFar shape input now → NoItem shape now.unread → ReadsAs shape input now.items BadPlace
+bad_place shape input now so_far none =
+    ends_so shape input now.unread now.items BadPlace so_far.used so_far.each (within_counts shape input now so_far) (λ rest e. subst (NoItem shape) e none)
 
 -- an item stands there that passes a limit
 pub too_many : (shape : Shape) (input : Option (List ℕ)) (now : Standing) (left : Option (List ℕ)) (cause : ℕ) (item : Item)
     → SoFar shape input now → IsItem shape item → Consumes now.unread left (item_spelling item) → passed_limit (counted now.counts item) ≡ Some cause
-    → (items : List Item) × ReadsAs shape input items (TooMany cause)
+    → ReadsAs shape input now.items (TooMany cause)
 too_many shape input now left cause item so_far is used passed =
-    (now.items, ends_so shape input now.unread now.items (TooMany cause) so_far.used so_far.each (within_counts shape input now so_far) (item_follows now.unread left used))
+    ends_so shape input now.unread now.items (TooMany cause) so_far.used so_far.each (within_counts shape input now so_far) (item_follows now.unread left used)
   where
     item_follows : (unread left : Option (List ℕ)) → Consumes unread left (item_spelling item) → (rest : List ℕ) → unread ≡ Some rest
         → EndsAs shape (counts_of now.items) (TooMany cause) rest
@@ -157,9 +152,9 @@ too_many shape input now left cause item so_far is used passed =
 pub refused : (shape config : Shape) (input left : Option (List ℕ)) (old new : Standing) (rose_now rose : Type 0) (fault : ItemFault)
     → config ≡ shape → (rose_now → rose) → SoFar shape input old → TakesOn 0 new.taken input left → Steps config old new rose_now (Err fault) → Refuses shape input left rose fault
 refused shape config input left old new rose_now rose (Bad at) same_config risen so_far taken step =
-    bad_place shape input old at so_far (subst (λ (s : Shape). NoItem s old.unread) same_config step.0) step.1
+    (old.items, bad_place shape input old so_far (subst (λ (s : Shape). NoItem s old.unread) same_config step.0), step.1 ∙ so_far.place)
 refused shape config input left old new rose_now rose (Read at) same_config risen so_far taken step =
     (risen step.0, subst (λ (n : ℕ). TakesOn 0 n input left) (sym step.1) taken)
 refused shape config input left old new rose_now rose (Many cause) same_config risen so_far taken step =
-    too_many shape input old new.unread cause step.0 so_far (subst (λ (s : Shape). IsItem s step.0) same_config step.1) step.2 step.3
+    (old.items, too_many shape input old new.unread cause step.0 so_far (subst (λ (s : Shape). IsItem s step.0) same_config step.1) step.2 step.3)
 refused shape config input left old new rose_now rose Memory same_config risen so_far taken step = tt

@@ -1,23 +1,15 @@
-//! Reading the items of a source, one after another.
+//! Reading the items of a source, one after another, with lines of the fault script among them.
 
 ghost use Rattle.std.specs.Prelude.{◌≡◌, ◌≤◌, length, None, IfErr, IfOk, OnOk};
 ghost use Rattle.log_base.specs.Outside.{Rose, TakesOn, unread};
 ghost use Rattle.log_base.specs.Shape.{shape};
 ghost use Rattle.command_frame.specs.Items.{passed_limit};
-ghost use Rattle.scalog_run.specs.Steps.{IsRead, Refuses, Steps};
+ghost use Rattle.item_input.specs.Steps.{IsRead, Refuses, Steps};
 
+use crate::steps::Step;
 use command_frame::{Item, ItemFault, ItemReader, Next};
 use log_base::{Config, Source};
 use std::alloc::Global;
-
-/// What came next in the source.
-#[derive(Drop)]
-pub enum Step {
-    /// An item, which is taken.
-    Taken,
-    /// The end.
-    Ended,
-}
 
 /// All items of a source.
 pub fn read_items<S: Source>(

@@ -1,8 +1,8 @@
 use Rattle.std.proofs.Common.{◌≡◌, ◌-◌, ◌≤◌, None}
 use Rattle.log_base.specs.Outside.{TakesOn, unread}
 use Rattle.log_base.specs.Shape.{shape}
-use Rattle.scalog_run.proofs.SoFar.{SoFar}
-use Rattle.scalog_run.proofs.reading.read_items.Given as goal
+use Rattle.item_input.proofs.SoFar.{SoFar}
+use Rattle.item_input.proofs.reading.read_items.Given as goal
 
 -- the items so far are read, and the reader has no fault
 abbrev pub invariant-items : goal.invariant-items

@@ -9,9 +9,9 @@ use Rattle.reply_frame.specs.declared.faults.ItemFault.{ItemFault}
 use Rattle.reply_frame.specs.declared.faults.ItemFault.TheVariants.{Bad, Read, Many, Memory}
 use Rattle.command_frame.specs.Items.{Counts, counted, passed_limit, item_spelling, IsItem}
 use Rattle.command_frame.specs.Reader.{NoItem}
-use Rattle.scalog_run.specs.declared.reading.Step.{Step}
-use Rattle.scalog_run.specs.declared.reading.Step.TheVariants.{Taken, Ended}
-use Rattle.scalog_run.specs.Input.{Whole, BadPlace, TooMany, ReadsAs}
+use Rattle.item_input.specs.declared.steps.Step.{Step}
+use Rattle.item_input.specs.declared.steps.Step.TheVariants.{Taken, Ended}
+use Rattle.item_input.specs.Input.{Whole, BadPlace, TooMany, ReadsAs}
 
 -- Where reading stands: what is unread, the counts of items, the items so far, the place of the next frame, and how many bytes
 -- were taken from the source.

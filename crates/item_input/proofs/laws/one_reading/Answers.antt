@@ -1,6 +1,6 @@
 use Rattle.command_frame.proofs.FrameLaws.{one_item}
-use Rattle.scalog_run.proofs.OneReading.{reads_one_way}
-use Rattle.scalog_run.proofs.run.one_reading.Goals as goal
+use Rattle.item_input.proofs.OneReading.{reads_one_way}
+use Rattle.item_input.proofs.laws.one_reading.Goals as goal
 
 pub returns : goal.returns
 returns c shape bytes items others ending other range a b =

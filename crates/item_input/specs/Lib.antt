@@ -1,0 +1,4 @@
+pub mod Input
+pub mod Plain
+pub mod PlainSteps
+pub mod Steps
