@@ -38,11 +38,11 @@ module _ (before now after : Option (List ℕ)) (old new : HistoryReading) (judg
         );
       }
 
-  pub goes_on : (piece : Piece) (next : Judge) → (piece ≡ End → ⊥) → Answers old new now after (Ok piece) → IsJudge next (pieces ++ piece ∷ []) → GoesOn before after new pieces (Goes next)
+  pub goes_on : (piece : Piece) (next : Judge) → (piece ≡ End → ⊥) → Answers old new now after (Ok piece) → IsJudge next (pieces ++ piece ∷ []) → GoesOn before after new next pieces Goes
   goes_on piece next other answers judged =
       (piece, record { given = given_more before now after old pieces stands.given new piece (gave_of piece other answers); judged = judged })
 
-  pub ends : (piece : Piece) → piece ≡ End → Answers old new now after (Ok piece) → GoesOn before after new pieces (Ends judge)
+  pub ends : (piece : Piece) → piece ≡ End → Answers old new now after (Ok piece) → GoesOn before after new judge pieces Ends
   ends piece e answers =
       let ended = ended_of piece e answers in
       record {
@@ -71,7 +71,7 @@ pub record HasJudged (before after : Option (List ℕ)) (reading : HistoryReadin
   pub many : length pieces ≡ count
 
 pub one_judged : (before after : Option (List ℕ)) (reading : HistoryReading) (judge : Judge) (pieces : List Piece) (count : ℕ) → length pieces ≡ count
-    → GoesOn before after reading pieces (Goes judge) → HasJudged before after reading judge (count + 1)
+    → GoesOn before after reading judge pieces Goes → HasJudged before after reading judge (count + 1)
 one_judged before after reading judge pieces count many on = record {
   pieces = pieces ++ on.0 ∷ [];
   stands = on.1;

@@ -99,6 +99,6 @@ pub record JudgesAll (before after : Option (List ℕ)) (reading : HistoryReadin
   pub inside : IsInside (stage_from Before pieces)
 
 -- one piece more was judged, or there is none
-abbrev pub GoesOn : Option (List ℕ) → Option (List ℕ) → HistoryReading → List Piece → Course → Type 0
-GoesOn before after reading pieces (Goes judge) = (piece : Piece) × Judges before after reading judge (pieces ++ piece ∷ [])
-GoesOn before after reading pieces (Ends judge) = JudgesAll before after reading judge pieces
+abbrev pub GoesOn : Option (List ℕ) → Option (List ℕ) → HistoryReading → Judge → List Piece → Course → Type 0
+GoesOn before after reading judge pieces Goes = (piece : Piece) × Judges before after reading judge (pieces ++ piece ∷ [])
+GoesOn before after reading judge pieces Ends = JudgesAll before after reading judge pieces

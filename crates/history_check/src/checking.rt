@@ -22,10 +22,9 @@ const FRAMES: u64 = 1 << 60;
 const TOO_MANY_FRAMES: u8 = 1;
 
 /// How far an input was judged: there may be more of it, or there is none.
-#[derive(Drop)]
 pub(crate) enum Course {
-    Goes(Judge),
-    Ends(Judge),
+    Goes,
+    Ends,
 }
 
 /// Whether the history that a source holds is legal. Replies before its head are read and not judged. The
@@ -51,7 +50,7 @@ fn judge_history<S: Source>(alloc: Global, source: &mut S) -> Result<Verdict, Ch
     ensures later { S.faults source.old ≤ S.faults source.new }
 {
     let mut reader = HistoryReader::new(alloc);
-    let judge = judge_all(alloc, &mut reader, source)?;
+    let mut judge = judge_all(alloc, &mut reader, source)?;
     let verdict = judge.verdict(alloc)?;
     Ok(verdict)
 }
@@ -70,9 +69,9 @@ fn judge_all<S: Source>(
 {
     let mut judge = Judge::Waiting;
     'frames: for _count in 0..FRAMES + 1 {
-        match judge_next(alloc, reader, source, judge) {
-            Ok(Course::Goes(next)) => judge = next,
-            Ok(Course::Ends(last)) => return Ok(last),
+        match judge_next(alloc, reader, source, &mut judge) {
+            Ok(Course::Goes) => {}
+            Ok(Course::Ends) => return Ok(judge),
             Err(fault) => return Err(fault),
         }
     }
@@ -81,30 +80,30 @@ fn judge_all<S: Source>(
     })
 }
 
-// Judges the next frame.
+// Judges the next frame. After a fault nothing is said of the judge.
 fn judge_next<S: Source>(
     alloc: Global,
     reader: &mut HistoryReader,
     source: &mut S,
-    judge: Judge,
+    judge: &mut Judge,
 ) -> Result<Course, CheckFault>
-    requires { (before : Option (List ℕ)) × (pieces : List Piece) × Judges before (unread reader.old.pending (S.left source.old)) reader.old judge pieces }
-    ensures course { IfOk result (λ course. (before : Option (List ℕ)) (pieces : List Piece) → Judges before (unread reader.old.pending (S.left source.old)) reader.old judge pieces
-        → GoesOn before (unread reader.new.pending (S.left source.new)) reader.new pieces course) }
-    ensures fault { IfErr result (λ fault. (before : Option (List ℕ)) (pieces : List Piece) → Judges before (unread reader.old.pending (S.left source.old)) reader.old judge pieces
+    requires { (before : Option (List ℕ)) × (pieces : List Piece) × Judges before (unread reader.old.pending (S.left source.old)) reader.old judge.old pieces }
+    ensures course { IfOk result (λ course. (before : Option (List ℕ)) (pieces : List Piece) → Judges before (unread reader.old.pending (S.left source.old)) reader.old judge.old pieces
+        → GoesOn before (unread reader.new.pending (S.left source.new)) reader.new judge.new pieces course) }
+    ensures fault { IfErr result (λ fault. (before : Option (List ℕ)) (pieces : List Piece) → Judges before (unread reader.old.pending (S.left source.old)) reader.old judge.old pieces
         → IsFault (λ at. Rose (S.faults source.old) (S.faults source.new) × (at ≡ reader.new.taken)) before fault) }
     ensures taken { TakesOn reader.old.taken reader.new.taken (S.left source.old) (S.left source.new) }
     ensures later { S.faults source.old ≤ S.faults source.new }
 {
-    let piece = match reader.next(source) {
+    let mut piece = match reader.next(source) {
         Ok(piece) => piece,
         Err(fault) => return Err(told(fault)),
     };
     match piece {
-        Piece::End => return Ok(Course::Ends(judge)),
-        other => {
-            let judged = judge.take(alloc, other)?;
-            return Ok(Course::Goes(judged));
+        Piece::End => return Ok(Course::Ends),
+        _ => {
+            judge.take(alloc, &mut piece)?;
+            return Ok(Course::Goes);
         }
     }
 }

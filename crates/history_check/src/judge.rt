@@ -1,6 +1,6 @@
 //! The judge of a history, which is handed its pieces one by one.
 
-ghost use Rattle.std.specs.Prelude.{List, [], ◌∷◌, ◌++◌, IfOk};
+ghost use Rattle.std.specs.Prelude.{List, [], ◌∷◌, ◌++◌, IfOk, OnOk};
 ghost use Rattle.history_frame.specs.declared.pieces.Piece.{Piece};
 ghost use Rattle.history_frame.specs.declared.stages.Stage.TheVariants.{Before};
 ghost use Rattle.history_frame.specs.Frames.{IsInside};
@@ -10,8 +10,9 @@ use crate::verdicts::Verdict;
 use core_step::{Sounding, sound};
 use history_frame::{Event, Kept, Piece};
 use history_walk::{Following, Walker};
-use log_base::{Config, Memory};
+use log_base::{Bytes, Config, Memory};
 use std::alloc::Global;
+use std::mem;
 
 /// How far a history was judged.
 #[derive(Drop)]
@@ -38,65 +39,84 @@ pub(crate) enum Judge {
 impl Judge {
     ghost use Rattle.history_check.specs.Judging.{Comes, HasBegun, IsJudge, IsJudgement};
 
-    /// Takes the next piece.
-    pub(crate) fn take(self, alloc: Global, piece: Piece) -> Result<Judge, Memory>
-        requires { (pieces : List Piece) × IsJudge self pieces × Comes pieces piece }
-        ensures { IfOk result (λ judge. (pieces : List Piece) → IsJudge self pieces → Comes pieces piece → IsJudge judge (pieces ++ piece ∷ [])) }
+    /// Takes the next piece, which is taken apart. After want of memory nothing is said of the judge.
+    pub(crate) fn take(&mut self, alloc: Global, piece: &mut Piece) -> Result<(), Memory>
+        requires { (pieces : List Piece) × IsJudge self.old pieces × Comes pieces piece.old }
+        ensures { OnOk result ((pieces : List Piece) → IsJudge self.old pieces → Comes pieces piece.old → IsJudge self.new (pieces ++ piece.old ∷ [])) }
     {
         match piece {
-            Piece::Reply => return Ok(self),
-            Piece::Head { config, run } => return Ok(Judge::head(alloc, config, run)),
-            Piece::Kept(kept) => return self.keep(kept),
+            Piece::Reply => return Ok(()),
+            Piece::Head { config, run } => {
+                self.head(alloc, *config, *run);
+                return Ok(());
+            }
+            Piece::Kept(kept) => return self.keep(alloc, kept),
             Piece::Event(event) => {
-                let judge = self.begin(alloc)?;
-                return judge.walk(event);
+                self.begin(alloc)?;
+                return self.walk(event);
             }
             Piece::End => unreachable!(),
         }
     }
 
     /// The verdict at the end, which is behind the head.
-    pub(crate) fn verdict(self, alloc: Global) -> Result<Verdict, Memory>
-        requires { (pieces : List Piece) × IsJudge self pieces × IsInside (stage_from Before pieces) }
-        ensures { IfOk result (λ verdict. (pieces : List Piece) → IsJudge self pieces → IsInside (stage_from Before pieces) → IsJudgement pieces verdict) }
+    pub(crate) fn verdict(&mut self, alloc: Global) -> Result<Verdict, Memory>
+        requires { (pieces : List Piece) × IsJudge self.old pieces × IsInside (stage_from Before pieces) }
+        ensures { IfOk result (λ verdict. (pieces : List Piece) → IsJudge self.old pieces → IsInside (stage_from Before pieces) → IsJudgement pieces verdict) }
     {
-        match self.begin(alloc)? {
-            Judge::Walking { walker: _, events } => return Ok(Verdict::Lawful { events }),
-            Judge::Broken { place } => return Ok(Verdict::Unlawful { place }),
+        self.begin(alloc)?;
+        match self {
+            Judge::Walking { events, .. } => return Ok(Verdict::Lawful { events: *events }),
+            Judge::Broken { place } => return Ok(Verdict::Unlawful { place: *place }),
             Judge::Waiting | Judge::Keeping { .. } => unreachable!(),
         }
     }
 
     // A head, behind replies alone.
-    fn head(alloc: Global, config: Config, run: u32) -> Judge
-        ensures { (judge : Judge) (pieces : List Piece) → IsJudge judge pieces → Comes pieces (Piece.Head config run) → IsJudge result (pieces ++ Piece.Head config run ∷ []) }
+    fn head(&mut self, alloc: Global, config: Config, run: u32)
+        ensures { (judge : Judge) (pieces : List Piece) → IsJudge judge pieces → Comes pieces (Piece.Head config run) → IsJudge self.new (pieces ++ Piece.Head config run ∷ []) }
     {
-        Judge::Keeping {
+        *self = Judge::Keeping {
             config,
             run,
             kept: Vec::new(alloc),
-        }
+        };
     }
 
-    // One payload more.
-    fn keep(self, one: Kept) -> Result<Judge, Memory>
-        ensures { IfOk result (λ judge. (pieces : List Piece) → IsJudge self pieces → Comes pieces (Piece.Kept one) → IsJudge judge (pieces ++ Piece.Kept one ∷ [])) }
+    // One payload more, which is moved out of its place.
+    fn keep(&mut self, alloc: Global, one: &mut Kept) -> Result<(), Memory>
+        ensures { OnOk result ((pieces : List Piece) → IsJudge self.old pieces → Comes pieces (Piece.Kept one.old) → IsJudge self.new (pieces ++ Piece.Kept one.old ∷ [])) }
     {
         match self {
-            Judge::Keeping {
-                config,
-                run,
-                mut kept,
-            } => {
-                kept.push(one)?;
-                return Ok(Judge::Keeping { config, run, kept });
+            Judge::Keeping { kept, .. } => {
+                let none = Kept {
+                    disk: one.disk,
+                    payload: Bytes::of(Vec::new(alloc)),
+                };
+                kept.push(mem::replace(one, none))?;
+                return Ok(());
             }
-            other => return Ok(other),
+            _ => return Ok(()),
         }
     }
 
     // Behind the last payload: the nodes begin, unless the lists are not sound.
-    fn begin(self, alloc: Global) -> Result<Judge, Memory>
+    fn begin(&mut self, alloc: Global) -> Result<(), Memory>
+        requires { (pieces : List Piece) × IsJudge self.old pieces }
+        ensures { OnOk result ((pieces : List Piece) → IsJudge self.old pieces → IsInside (stage_from Before pieces) → HasBegun self.new pieces) }
+    {
+        match self {
+            Judge::Keeping { .. } => {
+                let keeping = mem::replace(self, Judge::Waiting);
+                *self = keeping.begun(alloc)?;
+                return Ok(());
+            }
+            _ => return Ok(()),
+        }
+    }
+
+    // The judge behind the last payload.
+    fn begun(self, alloc: Global) -> Result<Judge, Memory>
         requires { (pieces : List Piece) × IsJudge self pieces }
         ensures { IfOk result (λ judge. (pieces : List Piece) → IsJudge self pieces → IsInside (stage_from Before pieces) → HasBegun judge pieces) }
     {
@@ -113,21 +133,20 @@ impl Judge {
     }
 
     // One event more.
-    fn walk(self, event: Event) -> Result<Judge, Memory>
-        requires { (pieces : List Piece) × HasBegun self pieces × Comes pieces (Piece.Event event) }
-        ensures { IfOk result (λ judge. (pieces : List Piece) → HasBegun self pieces → Comes pieces (Piece.Event event) → IsJudge judge (pieces ++ Piece.Event event ∷ [])) }
+    fn walk(&mut self, event: &mut Event) -> Result<(), Memory>
+        requires { (pieces : List Piece) × HasBegun self.old pieces × Comes pieces (Piece.Event event.old) }
+        ensures { OnOk result ((pieces : List Piece) → HasBegun self.old pieces → Comes pieces (Piece.Event event.old) → IsJudge self.new (pieces ++ Piece.Event event.old ∷ [])) }
     {
         match self {
-            Judge::Walking { mut walker, events } => match walker.offer(event)? {
-                Following::Follows => {
-                    return Ok(Judge::Walking {
-                        walker,
-                        events: events + 1,
-                    });
+            Judge::Walking { walker, events } => match walker.offer(event)? {
+                Following::Follows => *events += 1,
+                Following::Breaks => {
+                    let place = *events;
+                    *self = Judge::Broken { place };
                 }
-                Following::Breaks => return Ok(Judge::Broken { place: events }),
             },
-            other => return Ok(other),
+            _ => {}
         }
+        Ok(())
     }
 }

@@ -1,16 +1,13 @@
 -- What is answered to an offered event.
-use Rattle.std.proofs.Common.{◌≡◌, ◌<◌, ◌≤◌, ℕ, List, [], ◌∷◌, ◌++◌, length, Some, None, refl, sym, ap, subst, arith, ◌∙◌}
-use Rattle.reply_frame.specs.declared.replies.Reply.{Reply}
+use Rattle.std.proofs.Common.{◌≡◌, ◌≤◌, ℕ, List, [], ◌∷◌, ◌++◌, length, Some, None, sym, subst, arith}
 use Rattle.history_frame.specs.declared.events.Event.{Event}
-use Rattle.history_frame.specs.declared.events.Sent.{Sent}
 use Rattle.history_frame.specs.declared.inputs.Input.{Input}
-use Rattle.history_frame.specs.declared.inputs.Mark.{Mark}
 use Rattle.log_base.specs.Shape.{shape}
 use Rattle.log_base.specs.declared.cluster_shape.Config.{Config}
-use Rattle.node_table.specs.Numbering.{nodes_of, role_at}
+use Rattle.node_table.specs.Numbering.{nodes_of}
 use Rattle.node_model.specs.Legal.{IsNext}
 use Rattle.node_model.specs.NodeState.{KeptLists}
-use Rattle.history_walk.specs.Filling.{IsFilled, IsOffered, filled_event, filled_input}
+use Rattle.history_walk.specs.Filling.{IsFilled, filled_event, filled_input}
 use Rattle.history_walk.specs.Submitting.{MaySubmit}
 use Rattle.history_walk.specs.Walking.{IsAnswer, IsTaken, MayTake, StandsAfter, event_of}
 use Rattle.history_walk.specs.declared.walker.Following.{Following}

@@ -1,22 +1,20 @@
 -- Sound lists are those of nodes of the rules as they begin.
-use Rattle.std.proofs.Common.{◌≡◌, ℕ, zero, suc, ◌+◌, ◌*◌, ◌/◌, ◌%◌, ◌<◌, ◌≤◌, ◌⊎◌, inl, inr, Bool, true, false, cond, List, [], ◌∷◌, ◌++◌, length, map, slice_get, Option, Some, None, is_some, get_or, refl, sym, ap, subst, arith, ◌∙◌}
-use Rattle.std.specs.List.{All, AllByRecursion}
+use Rattle.std.proofs.Common.{◌≡◌, ℕ, zero, suc, ◌+◌, ◌*◌, ◌/◌, ◌%◌, ◌<◌, ◌≤◌, ◌⊎◌, inl, inr, Bool, true, cond, List, [], ◌∷◌, ◌++◌, length, map, slice_get, Option, Some, None, is_some, get_or, refl, sym, ap, subst, arith, ◌∙◌}
+use Rattle.std.specs.List.{All}
 use Rattle.std.proofs.lemmas.List.{append-nil}
 use Rattle.std.proofs.lemmas.Option.{none-some, same_Some, slice_get_cases, slice_get_within}
 use Rattle.std.proofs.lemmas.Option.{get_or_from_slice_get}
 use Rattle.history_frame.specs.declared.events.Kept.{Kept}
-use Rattle.log_base.specs.ClusterShape.{InRange, Shape}
+use Rattle.log_base.specs.ClusterShape.{Shape}
 use Rattle.log_model.specs.Storage.{IsRecords, IsSpelled as IsEntrySpelled, entries_in, entry_in, knowledge_of, list_limit}
-use Rattle.message_frame.specs.Spelling.{IsBallot}
 use Rattle.node_table.specs.declared.role.Role.{Role}
 use Rattle.node_table.specs.declared.role.Role.TheVariants.{Storage, Gatherer, Orderer}
 use Rattle.node_table.specs.Numbering.{disk_of, nodes_of, role_at}
 use Rattle.paxos_acceptor.specs.Listed.{bad_from, bad_offset}
-use Rattle.paxos_model.specs.Payloads.{IsPayload, IsSpelled, payload_found, payload_in, payload_of, payload_spelling}
-use Rattle.paxos_model.specs.Votes.{Payload, Promise, Voted}
+use Rattle.paxos_model.specs.Payloads.{IsPayload, IsSpelled, payload_found, payload_in, payload_of}
+use Rattle.paxos_model.specs.Votes.{Payload}
 use Rattle.paxos_model.proofs.Payloads.{payload_short}
 use Rattle.record_frame.specs.declared.entries.Entry.{Entry}
-use Rattle.record_frame.specs.Entries.{entry_spelling}
 use Rattle.record_frame.proofs.EntryLaws.{length-entry_spelling}
 use Rattle.segment_journal.specs.Journalled.{Journalled, loaded}
 use Rattle.shard_replica.specs.Lists.{HoldsRecords, Segment, segment_of, segments_of}
@@ -25,12 +23,12 @@ use Rattle.node_model.specs.Machine.{IsAny}
 use Rattle.node_model.specs.Marks.{Stopped}
 use Rattle.node_model.specs.NodeState.{KeptLists, NodeState, Storing, begun_as, segments_kept}
 use Rattle.node_model.specs.StorageNode.{member_of}
-use Rattle.node_model.specs.Sound.{AreSound, IsBefore, IsSound, IsSoundAs, IsSoundAt, payloads_on}
+use Rattle.node_model.specs.Sound.{AreSound, IsBefore, IsSound, IsSoundAs, payloads_on}
 use Rattle.node_model.proofs.Promises.{disk_node, disk_segment}
 use Rattle.node_model.proofs.Sounding.{stands_on}
 use Rattle.history_walk.specs.Beginning.{AreLists, AreLoaded, journal_in}
 use Rattle.history_walk.specs.InMemory.{InMemory}
-use Rattle.history_walk.specs.Keeping.{AreShort, IsShort}
+use Rattle.history_walk.specs.Keeping.{AreShort}
 use Rattle.core_step.specs.Starting.{IsOrderer as IsOrdererRole, IsStorage as IsStorageRole, IsStoring, ordering}
 
 -- lists that are sound are so whatever the numbers

@@ -1,18 +1,16 @@
 -- Letters that were sent are those that written events name.
-use Rattle.std.proofs.Common.{◌≡◌, ℕ, zero, suc, List, [], ◌∷◌, ◌++◌, length, map, slice_get, Option, Some, None, refl, sym, ap, subst, ◌∙◌}
+use Rattle.std.proofs.Common.{◌≡◌, ℕ, zero, suc, List, [], ◌∷◌, map, slice_get, Option, Some, None, refl, sym, ap, subst, ◌∙◌}
+use Rattle.std.specs.Prelude.{is_some, if◌then◌else◌, ◌↔◌}
 use Rattle.std.proofs.lemmas.Option.{none-some, same_Some}
 use Rattle.history_frame.specs.declared.events.Event.{Event}
 use Rattle.history_frame.specs.declared.events.Sent.{Sent}
-use Rattle.history_frame.specs.declared.inputs.Call.{Call}
-use Rattle.history_frame.specs.declared.inputs.Input.{Input}
-use Rattle.history_frame.specs.declared.inputs.Input.TheVariants.{Deliver, Call as ACall, Tick, Lead, Stop, Restart}
+use Rattle.history_frame.specs.declared.inputs.Input.TheVariants.{Deliver}
 use Rattle.log_base.specs.ClusterShape.{Shape}
 use Rattle.message_frame.specs.declared.messages.Message.{Message}
-use Rattle.node_table.specs.Numbering.{role_at}
-use Rattle.node_model.specs.Fits.{IsInput}
 use Rattle.node_model.specs.Histories.{IsDelivered, IsSent, letters_of}
-use Rattle.node_model.specs.Nodes.{letter}
-use Rattle.history_walk.specs.Filling.{IsFilled, IsOffered, filled_input, message_in, named_message, outputs_in}
+use Rattle.history_walk.specs.Filling.{IsFilled, filling, message_in, named_message, outputs_in}
+use Rattle.history_walk.specs.declared.walker.Following.{Following}
+use Rattle.history_walk.specs.declared.walker.Following.TheVariants.{Follows, Breaks}
 use Rattle.history_walk.specs.Letters.{IsLetterAt}
 
 -- an element of a mapped list
@@ -54,32 +52,13 @@ module _ (events : List Event) (node place index : ℕ) where
       at None offered = offered
       at (Some message) offered = none message (subst (λ (l : List (List Sent)). IsLetterAt l node place index message) (sym e) (letter_at message offered))
 
--- an input that is no letter
-pub other_filled : (config : Shape) (node : ℕ) (before : List Event) (input : Input) (found : Option Input)
-    → ((place index : ℕ) (message : Option Message) → input ≡ Deliver place index message → ⊥)
-    → ((filled : Input) → found ≡ Some filled → (filled ≡ input) × IsInput config (role_at config node) input)
-    → (found ≡ None → IsInput config (role_at config node) input → ⊥)
-    → IsFilled config node before input found
-other_filled config node before input None other some none = refused input other (none refl)
-  where
-    refused : (input : Input) → ((place index : ℕ) (message : Option Message) → input ≡ Deliver place index message → ⊥) → (IsInput config (role_at config node) input → ⊥)
-        → IsFilled config node before input None
-    refused (Deliver place index message) other none = absurd (other place index message refl)
-    refused (ACall call) other none = none
-    refused Tick other none = none
-    refused Lead other none = none
-    refused Stop other none = none
-    refused Restart other none = none
-other_filled config node before input (Some filled) other some none =
-    let it = some filled refl in
-    let taken = taken_as input other it.1 in
-    (it.0 ∙ taken.0, subst (IsOffered config node before) (sym it.0) taken.1)
-  where
-    taken_as : (input : Input) → ((place index : ℕ) (message : Option Message) → input ≡ Deliver place index message → ⊥) → IsInput config (role_at config node) input
-        → (input ≡ filled_input before input) × IsOffered config node before input
-    taken_as (Deliver place index message) other is = absurd (other place index message refl)
-    taken_as (ACall call) other is = (refl, is)
-    taken_as Tick other is = (refl, is)
-    taken_as Lead other is = (refl, is)
-    taken_as Stop other is = (refl, is)
-    taken_as Restart other is = (refl, is)
+  -- it was put in its place, where there is one
+  pub letter_told : (config : Shape) (sent : List (List Sent)) (before told : Option Message) (following : Following) → sent ≡ map letters_of events
+      → ((message : Message) → (told ≡ Some message) ↔ IsLetterAt sent node place index message) → following ≡ (if is_some told then Follows else Breaks)
+      → IsFilled config node events (Deliver place index before) (filling following (Deliver place index told))
+  letter_told config sent before None following e at is =
+      subst (λ (f : Following). IsFilled config node events (Deliver place index before) (filling f (Deliver place index None))) (sym is)
+      (letter_none config sent before e (λ message found. none-some message ((at message).1 found)))
+  letter_told config sent before (Some message) following e at is =
+      subst (λ (f : Following). IsFilled config node events (Deliver place index before) (filling f (Deliver place index (Some message)))) (sym is)
+      (letter_filled config sent before message e ((at message).0 refl))

@@ -1,14 +1,13 @@
 -- The lists of disks after one payload more.
-use Rattle.std.proofs.Common.{◌≡◌, ◌≢◌, ℕ, zero, suc, ◌<◌, ◌≤◌, inl, inr, Bool, true, false, cond, ◌==◌, List, [], ◌∷◌, ◌++◌, length, take, slice_get, Some, refl, sym, ap, subst, arith, eq-eqb, ◌∙◌}
+use Rattle.std.proofs.Common.{◌≡◌, ◌≢◌, ℕ, ◌<◌, ◌≤◌, inl, inr, Bool, true, false, cond, ◌==◌, List, [], ◌∷◌, ◌++◌, length, take, slice_get, Some, refl, sym, ap, subst, arith, eq-eqb, ◌∙◌}
 use Rattle.std.proofs.lemmas.Bool.{cases_eq, cond-true, cond-false, ne_eqb}
-use Rattle.std.proofs.lemmas.List.{append-nil}
-use Rattle.std.proofs.lemmas.Option.{none-some, same_Some, slice_get_cases, slice_get_within}
+use Rattle.std.proofs.lemmas.Option.{slice_get_cases}
 use Rattle.history_frame.specs.declared.events.Kept.{Kept}
 use Rattle.node_model.specs.Sound.{payloads_on}
 use Rattle.segment_journal.specs.Journalled.{Journalled, loaded}
 use Rattle.history_walk.specs.Beginning.{AreLists}
 use Rattle.history_walk.specs.InMemory.{InMemory}
-use Rattle.history_walk.specs.Keeping.{AreShort, IsShort}
+use Rattle.history_walk.specs.Keeping.{AreShort}
 
 -- the list of a disk with one payload more
 pub on_push : (kept : List Kept) (one : Kept) (disk : ℕ) → payloads_on (kept ++ one ∷ []) disk ≡ cond (one.disk == disk) (payloads_on kept disk ++ one.payload ∷ []) (payloads_on kept disk)

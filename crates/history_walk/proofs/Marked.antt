@@ -1,5 +1,5 @@
 -- A mark that an event can have is the one that its node's journals tell, where they turn out by that mark's plan.
-use Rattle.std.proofs.Common.{◌≡◌, ◌≢◌, ◌⊎◌, inl, inr, ℕ, zero, suc, ◌<◌, ◌≤◌, Bool, true, false, cond, ◌==◌, List, [], ◌∷◌, length, Option, Some, None, refl, sym, ap, subst, arith, eq-eqb, ◌∙◌}
+use Rattle.std.proofs.Common.{◌≡◌, ◌≢◌, ◌⊎◌, inl, inr, ℕ, zero, suc, ◌<◌, ◌≤◌, Bool, true, false, cond, ◌==◌, List, [], ◌∷◌, length, Option, Some, None, refl, sym, ap, arith, eq-eqb, ◌∙◌}
 use Rattle.std.specs.Option.{option_map}
 use Rattle.std.proofs.lemmas.Bool.{cond-true}
 use Rattle.std.proofs.lemmas.Option.{none-some, same_Some}
@@ -10,17 +10,15 @@ use Rattle.history_frame.specs.declared.inputs.Mark.{Mark}
 use Rattle.history_frame.specs.declared.inputs.Mark.TheVariants.{Done, Halted, OpenedWithout, OpenedWith, StayedDown}
 use Rattle.log_base.specs.ClusterShape.{Shape}
 use Rattle.node_model.specs.Durable.{payload_in_flight, put_to, spelled}
-use Rattle.node_model.specs.GathererRow.{GathererNode, gatherer_role, outcome as gatherer_outcome}
-use Rattle.node_model.specs.Marks.{ChangeOf, Mode, NodeOf, OutcomeOf, RoleOf, Running, Stopped, as_stopped, down_made, flight_of, halted, is_named, made_by, opened_with, restarted, row_made, stop_made, usual_made}
+use Rattle.node_model.specs.GathererRow.{gatherer_role, outcome as gatherer_outcome}
+use Rattle.node_model.specs.Marks.{ChangeOf, Mode, NodeOf, OutcomeOf, RoleOf, Running, Stopped, as_stopped, down_made, flight_of, made_by, opened_with, restarted, row_made, stop_made, usual_made}
 use Rattle.node_model.specs.NodeState.{NodeOutcome, NodeState, Storing, Gathering, Ordering, as_outcome, outcome_as}
-use Rattle.node_model.specs.OrdererNode.{Node}
 use Rattle.node_model.specs.OrdererRow.{orderer_role, outcome as orderer_outcome}
-use Rattle.node_model.specs.StorageNode.{Put, StorageNode, member_of}
+use Rattle.node_model.specs.StorageNode.{Put, member_of}
 use Rattle.node_model.specs.StorageRow.{outcome as storage_outcome, storage_role}
 use Rattle.node_table.specs.declared.role.Role.{Role}
 use Rattle.node_table.specs.declared.role.Role.TheVariants.{Storage, Gatherer, Orderer}
 use Rattle.paxos_model.specs.Payloads.{payload_spelling}
-use Rattle.paxos_model.specs.Votes.{Payload}
 use Rattle.record_frame.specs.Entries.{entry_spelling}
 use Rattle.segment_journal.specs.Journalled.{Journalled, Turns, planned, turns_by}
 use Rattle.segment_journal.specs.declared.journal.Installed.{Installed}

@@ -1,5 +1,5 @@
 -- What a node replies is an answer of nodes, whatever happens at it.
-use Rattle.std.proofs.Common.{◌≡◌, ℕ, Bool, true, false, cond, ◌==◌, ◌%◌, ◌^◌, nat_le, nat_lt, List, [], length, Option, Some, None, ◌++◌, ◌∷◌, refl, sym, subst}
+use Rattle.std.proofs.Common.{◌≡◌, ℕ, Bool, true, false, cond, ◌==◌, ◌^◌, nat_le, List, [], length, Option, Some, None, ◌++◌, ◌∷◌, refl, sym, subst}
 use Rattle.std.proofs.lemmas.Bool.{cond_both}
 use Rattle.std.proofs.lemmas.Option.{none-some, same_Some}
 use Rattle.aggregator.specs.Hearing.{Hearing}
@@ -10,32 +10,30 @@ use Rattle.history_frame.specs.declared.inputs.Input.{Input}
 use Rattle.history_frame.specs.declared.inputs.Input.TheVariants.{Deliver, Call as ACall, Tick, Lead, Stop, Restart}
 use Rattle.history_frame.specs.declared.inputs.Mark.{Mark}
 use Rattle.log_base.specs.ClusterShape.{Shape}
-use Rattle.log_model.specs.Asking.{Asked, At, Pending as PendingAsked, FinalisedAt, Stale as StaleAsked, Missing, ask}
-use Rattle.log_model.specs.Reading.{ReadAnswer, Found, Trimmed, Pending as PendingPosition, Elsewhere, read}
-use Rattle.log_model.specs.Storage.{Member, list_in}
-use Rattle.log_model.specs.Submitting.{Submitted, Stored, Stale, NotAdded, Finalised, Full, submit}
+use Rattle.log_model.specs.Asking.{Asked, At, Pending as PendingAsked, FinalisedAt, Stale as StaleAsked, Missing}
+use Rattle.log_model.specs.Reading.{ReadAnswer, Found, Trimmed, Pending as PendingPosition, Elsewhere}
+use Rattle.log_model.specs.Storage.{Member}
+use Rattle.log_model.specs.Submitting.{Submitted, Stored, Stale, NotAdded, Finalised, Full}
 use Rattle.message_frame.specs.declared.messages.Message.{Message}
 use Rattle.message_frame.specs.declared.messages.Message.TheVariants.{Copy, CopyAck, Report, Least, Prepare, Promised, Lower, Accept, Accepted, Decide, Want}
 use Rattle.message_frame.specs.declared.messages.Vote.{Vote}
 use Rattle.node_table.specs.declared.role.Role.{Role}
 use Rattle.node_table.specs.declared.role.Role.TheVariants.{Storage, Gatherer, Orderer as OrdererRole}
 use Rattle.node_table.specs.Numbering.{role_at}
-use Rattle.paxos_model.specs.Acceptor.{Promised as Promise_answer, Refused, Granted, prepare, Accepted as Accept_answer, TooLow, Taken, accept}
+use Rattle.paxos_model.specs.Acceptor.{Promised as Promise_answer, Refused, Granted, Accepted as Accept_answer, TooLow, Taken}
 use Rattle.paxos_model.specs.Leader.{Leader, Pending, awaits_promise, ballot_above, leader_from, with_acceptance, with_promise}
-use Rattle.paxos_model.specs.Learner.{find_value}
 use Rattle.paxos_model.specs.Majority.{most}
 use Rattle.paxos_model.specs.Votes.{Payload, Promise, promised}
 use Rattle.peer_copy.specs.declared.taking.Taking.{Taking}
 use Rattle.peer_copy.specs.declared.taking.Taking.TheVariants.{Put as IsNext, Have as IsThere, Gap as IsMissing}
 use Rattle.record_frame.specs.declared.entries.Entry.{Entry}
-use Rattle.record_frame.specs.declared.values.Lengths.{Lengths}
 use Rattle.record_frame.specs.declared.values.Value.{Value}
 use Rattle.node_model.specs.GathererRow.{GathererNode, GathererOutcome, gatherer_role, message_row as gatherer_message_row, on_report, on_tick as gatherer_tick, outcome as gatherer_outcome, row as gatherer_row}
 use Rattle.node_model.specs.Marks.{ChangeOf, NodeOf, OutcomeOf, RoleOf, to_call}
-use Rattle.node_model.specs.Messages.{accept_message, prepare_message}
+use Rattle.node_model.specs.Messages.{prepare_message}
 use Rattle.node_model.specs.Nodes.{to_orderers}
 use Rattle.node_model.specs.NodeState.{NodeOutcome, NodeState, Storing, Gathering, Ordering, as_outcome, node_outcome, outcome_as}
-use Rattle.node_model.specs.OrdererNode.{Change, Node, Orderer, Outcome}
+use Rattle.node_model.specs.OrdererNode.{Node, Orderer, Outcome}
 use Rattle.node_model.specs.OrdererRow.{accept_answer, accepted_for, accepted_to, answered, call_row as orderer_call_row, counted, decided_by, finalises_unknown, go_on, learned, message_row as orderer_message_row, on_accept, on_accepted, on_lead, on_least, on_lower, on_prepare, on_promised, on_request, on_settled, on_tick as orderer_tick, on_want, one_tick, orderer_role, outcome as orderer_outcome, prepare_answer, promised_to, quiet, request_to, row as orderer_row, settled_reply, tick_leader, tick_pending, told, with_leader}
 use Rattle.node_model.specs.StorageNode.{Put, Replica, StorageNode, StorageOutcome, member_of}
 use Rattle.node_model.specs.StorageRow.{ask_reply, call_row, copied_as, message_row, on_ask, on_copied, on_copy, on_decide, on_read, on_submit, on_tick, outcome, read_reply, row, storage_role, submit_reply}

@@ -1,5 +1,5 @@
 -- What is noted of submissions: an event may submit exactly where it is like what is noted, and one event more is noted.
-use Rattle.std.proofs.Common.{◌≡◌, ℕ, ◌/◌, ◌^◌, Bool, true, false, cond, ◌==◌, ◌&&◌, List, [], ◌∷◌, ◌++◌, Option, Some, None, refl, sym, ap, subst, ◌∙◌, inl, inr, eq-eqb, eqb-true}
+use Rattle.std.proofs.Common.{◌≡◌, ℕ, ◌/◌, ◌^◌, Bool, true, false, cond, ◌==◌, ◌&&◌, List, [], ◌∷◌, ◌++◌, Option, Some, None, refl, sym, ap, subst, ◌∙◌, inl, inr, eq-eqb}
 use Rattle.std.proofs.lemmas.Bool.{cases_eq, cond-true, cond-false, ne_eqb}
 use Rattle.std.proofs.lemmas.Option.{none-some, same_Some}
 use Rattle.std.specs.List.{AllByRecursion}
@@ -15,11 +15,11 @@ use Rattle.log_base.specs.declared.numbers.NodeId.{NodeId}
 use Rattle.log_base.specs.declared.numbers.Number.{Number}
 use Rattle.record_frame.specs.declared.entries.Entry.{Entry}
 use Rattle.record_frame.specs.Entries.{entry_of}
-use Rattle.node_model.specs.Legal.{AgreesWith, IsOfRun, submitted}
+use Rattle.node_model.specs.Legal.{AgreesWith, submitted}
 use Rattle.node_model.proofs.Letters.{all_append}
 use Rattle.history_walk.specs.declared.submissions.Pair.{Pair}
 use Rattle.history_walk.specs.declared.submissions.Submission.{Submission}
-use Rattle.history_walk.specs.Submitting.{AreNoted, HasPair, IsLike, IsNoted, IsSubmission, MaySubmit, SubmitsNot, SubmitsSo, submission_in}
+use Rattle.history_walk.specs.Submitting.{AreNoted, HasPair, IsLike, IsNoted, MaySubmit, SubmitsNot, SubmitsSo, submission_in}
 
 pub all_map : {A : Type 0} (P Q : A → Type 0) → ((x : A) → P x → Q x) → (xs : List A) → AllByRecursion P xs → AllByRecursion Q xs
 all_map P Q f [] h = tt

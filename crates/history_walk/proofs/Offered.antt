@@ -1,6 +1,5 @@
 -- An event that is offered may come next exactly where its node makes it so.
-use Rattle.std.proofs.Common.{◌≡◌, ◌<◌, ℕ, zero, suc, List, [], ◌∷◌, ◌++◌, length, map, slice_get, set, Option, Some, None, refl, sym, ap, subst, arith, ◌∙◌, inl, inr}
-use Rattle.std.specs.List.{AllByRecursion}
+use Rattle.std.proofs.Common.{◌≡◌, ◌<◌, ℕ, zero, suc, List, [], ◌∷◌, length, slice_get, Some, None, refl, sym, ap, subst, ◌∙◌, inl, inr}
 use Rattle.std.proofs.lemmas.Option.{none-some, same_Some}
 use Rattle.agreement_law.specs.Elements.{In}
 use Rattle.agreement_law.proofs.Elements.{in_left, in_right}
@@ -11,28 +10,19 @@ use Rattle.history_frame.specs.declared.events.Sent.{Sent}
 use Rattle.history_frame.specs.declared.inputs.Input.{Input}
 use Rattle.history_frame.specs.declared.inputs.Input.TheVariants.{Deliver, Call as ACall, Tick, Lead, Stop, Restart}
 use Rattle.history_frame.specs.declared.inputs.Mark.{Mark}
-use Rattle.history_frame.specs.Spelling.{IsSent as IsSpelledSent}
-use Rattle.log_base.specs.ClusterShape.{InRange, Shape}
-use Rattle.log_base.specs.declared.numbers.NodeId.{NodeId}
+use Rattle.log_base.specs.ClusterShape.{Shape}
 use Rattle.message_frame.specs.declared.messages.Message.{Message}
-use Rattle.message_frame.specs.Reading.{message_of}
-use Rattle.message_frame.specs.Spelling.{IsMessage, message_spelling}
-use Rattle.message_frame.proofs.MessageLaws.{all_again}
 use Rattle.node_table.specs.Numbering.{nodes_of, role_at}
-use Rattle.record_frame.proofs.FieldLaws.{ok_is}
 use Rattle.node_model.specs.Fits.{Fits, FitsState, IsInput}
-use Rattle.node_model.specs.Histories.{IsDelivered, IsSent, letters_of, sent_in}
-use Rattle.node_model.specs.Legal.{AgreesWith, IsLegal, IsNext, IsOfRun}
-use Rattle.node_model.specs.Machine.{posted}
-use Rattle.node_model.specs.NodeState.{IsRow, KeptLists, NodeOutcome, NodeState, Storing, Gathering, Ordering, node_after, node_outcome, state_after}
+use Rattle.node_model.specs.Histories.{IsDelivered, sent_in}
+use Rattle.node_model.specs.Legal.{IsLegal, IsNext}
+use Rattle.node_model.specs.NodeState.{IsRow, KeptLists, NodeOutcome, NodeState, Storing, Gathering, Ordering, node_after, node_outcome}
 use Rattle.node_model.specs.Nodes.{letter}
-use Rattle.node_model.proofs.Following.{grown, node_here, node_there}
 use Rattle.node_table.specs.declared.role.Role.{Role}
 use Rattle.node_table.specs.declared.role.Role.TheVariants.{Storage, Gatherer, Orderer}
-use Rattle.safety_law.proofs.Corollaries.{letters_are_spelled, letters_fit}
+use Rattle.safety_law.proofs.Corollaries.{letters_fit}
 use Rattle.history_walk.specs.Filling.{IsOffered}
 use Rattle.history_walk.specs.Submitting.{MaySubmit}
-use Rattle.history_walk.proofs.Noting.{all_in, all_map}
 
 -- ---- letters
 
@@ -46,30 +36,6 @@ got_among : {A : Type 0} (xs : List A) (k : ℕ) (x : A) → slice_get xs k ≡ 
 got_among [] k x e = absurd (none-some x e)
 got_among (y ∷ ys) zero x e = inl (sym (same_Some y x e))
 got_among (y ∷ ys) (suc k) x e = inr (got_among ys k x e)
-
-all_among : {A : Type 0} (P : A → Type 0) (xs : List A) → ((x : A) → In x xs → P x) → AllByRecursion P xs
-all_among P [] h = tt
-all_among P (x ∷ xs) h = (h x (inl refl), all_among P xs (λ y i. h y (inr i)))
-
-one_spelling : (m other : Message) → IsMessage m → IsMessage other → message_spelling m ≡ message_spelling other → m ≡ other
-one_spelling m other a b e = ok_is m other (sym (all_again m a) ∙ ap message_of e ∙ all_again other b)
-
-sent_same : (one other : Sent) → IsSpelledSent one → IsSpelledSent other → posted one ≡ posted other → one ≡ other
-sent_same one other a b e =
-    let to : one.to.0 ≡ other.to.0 = ap (λ (x : ℕ × List ℕ). x.0) e in
-    let message = one_spelling one.message other.message a b (ap (λ (x : ℕ × List ℕ). x.1) e) in
-    λ i. record { to = record { 0 = to i }; message = message i }
-
-pub posted_same : (xs ys : List Sent) → AllByRecursion IsSpelledSent xs → AllByRecursion IsSpelledSent ys → map posted xs ≡ map posted ys → xs ≡ ys
-posted_same [] [] a b e = refl
-posted_same [] (y ∷ ys) a b e = absurd (cc)
-posted_same (x ∷ xs) [] a b e = absurd (cc)
-posted_same (x ∷ xs) (y ∷ ys) a b e =
-    let head : posted x ≡ posted y = cc in
-    let tail : map posted xs ≡ map posted ys = cc in
-    let first = sent_same x y a.0 b.0 head in
-    let rest = posted_same xs ys a.1 b.1 tail in
-    λ i. first i ∷ rest i
 
 -- ---- what fits
 
@@ -143,36 +109,13 @@ module _ (config : Shape) (run : ℕ) (kept : KeptLists) (events : List Event) (
     one_node = may.1;
   }
 
-  -- what it made, where the letters are spelled so
-  pub made_spelled : (made : Happened) → made.input ≡ input → MaySubmit run events (event_at (length events) node made) → IsRow config node state made → AllByRecursion IsSpelledSent made.outputs
-  made_spelled made e may row = all_among IsSpelledSent made.outputs (λ sent i. (letters_are_spelled config run kept (events ++ one ∷ []) more sent.to.0 sent.message (among sent i)).0)
-    where
-      one : Event
-      one = event_at (length events) node made
-
-      more : IsLegal config run kept (events ++ one ∷ [])
-      more = record { config_in_range = legal.config_in_range; sound = legal.sound; follow = grown config run kept [] events one legal.follow (next_is made e may row) }
-
-      last : (before : List Event) (sent : Sent) → In sent made.outputs → In sent (sent_in (before ++ one ∷ []))
-      last [] sent i = in_left sent made.outputs [] i
-      last (first ∷ before) sent i = in_right sent first.happened.outputs (sent_in (before ++ one ∷ [])) (last before sent i)
-
-      among : (sent : Sent) → In sent made.outputs → In sent (sent_in (events ++ one ∷ []))
-      among sent i = last events sent i
-
   -- The event is as it was made.
-  pub same_follows : (made : Happened) (mark : Mark) (outputs : List Sent) (reply : Reply) → made.input ≡ input → made.mark ≡ mark → made.reply ≡ reply
-      → AllByRecursion IsSpelledSent outputs → map posted outputs ≡ map posted made.outputs → MaySubmit run events (event_at (length events) node (happened_as input mark outputs reply))
+  pub same_follows : (made : Happened) (mark : Mark) (outputs : List Sent) (reply : Reply) → made.input ≡ input → made.mark ≡ mark → made.reply ≡ reply → outputs ≡ made.outputs
+      → MaySubmit run events (event_at (length events) node (happened_as input mark outputs reply))
       → IsRow config node state made → IsNext config run kept events (event_at (length events) node (happened_as input mark outputs reply))
-  same_follows made mark outputs reply i m r spelled posts may row =
+  same_follows made mark outputs reply i m r alike may row =
       next_is (happened_as input mark outputs reply) refl may (subst (IsRow config node state) same row)
     where
-      alike : outputs ≡ made.outputs
-      alike = posted_same outputs made.outputs spelled (made_spelled made i (may_same may) row) posts
-        where
-          may_same : MaySubmit run events (event_at (length events) node (happened_as input mark outputs reply)) → MaySubmit run events (event_at (length events) node made)
-          may_same may = subst (λ (x : Input). MaySubmit run events (event_at (length events) node (happened_as x made.mark made.outputs made.reply))) (sym i) may
-
       same : made ≡ happened_as input mark outputs reply
       same = λ j. record { input = i j; mark = m j; outputs = sym alike j; reply = r j }
 
@@ -180,9 +123,9 @@ module _ (config : Shape) (run : ℕ) (kept : KeptLists) (events : List Event) (
   pub next_same : (made : Happened) (mark : Mark) (outputs : List Sent) (reply : Reply) → made.input ≡ input
       → ((other : NodeOutcome) → node_outcome config node state input mark ≡ Some other → made.mark ≡ mark) → IsRow config node state made
       → IsNext config run kept events (event_at (length events) node (happened_as input mark outputs reply))
-      → (made.mark ≡ mark) × (reply ≡ made.reply) × (map posted outputs ≡ map posted made.outputs)
+      → (made.mark ≡ mark) × (reply ≡ made.reply) × (outputs ≡ made.outputs)
   next_same made mark outputs reply i marked row next =
       let m = marked next.row.made next.row.rule in
       let same : next.row.made ≡ row.made =
       same_Some next.row.made row.made (sym next.row.rule ∙ (λ j. node_outcome config node state (sym i j) (sym m j)) ∙ row.rule) in
-      (m, next.row.reply ∙ ap (λ (o : NodeOutcome). o.reply) same ∙ sym row.reply, ap (map posted) (next.row.outputs ∙ ap (λ (o : NodeOutcome). o.outputs) same ∙ sym row.outputs))
+      (m, next.row.reply ∙ ap (λ (o : NodeOutcome). o.reply) same ∙ sym row.reply, next.row.outputs ∙ ap (λ (o : NodeOutcome). o.outputs) same ∙ sym row.outputs)

@@ -1,5 +1,5 @@
 -- What an input puts, and what is in flight, is to a segment of the shard.
-use Rattle.std.proofs.Common.{◌≡◌, ℕ, ◌<◌, List, Option, Some, None, refl, sym, ap, subst, arith, ◌∙◌}
+use Rattle.std.proofs.Common.{◌≡◌, ℕ, ◌<◌, List, Option, Some, None, subst, arith}
 use Rattle.std.specs.Option.{option_map}
 use Rattle.std.proofs.lemmas.Option.{none-some, same_Some}
 use Rattle.history_frame.specs.declared.events.Event.{Event}
@@ -7,9 +7,8 @@ use Rattle.history_frame.specs.declared.inputs.Call.{Call}
 use Rattle.history_frame.specs.declared.inputs.Call.TheVariants.{Submit, Ask, Read, Request, Settled}
 use Rattle.history_frame.specs.declared.inputs.Input.{Input}
 use Rattle.history_frame.specs.declared.inputs.Input.TheVariants.{Deliver, Call as ACall, Tick, Lead, Stop, Restart}
-use Rattle.log_base.specs.ClusterShape.{InRange, Shape}
+use Rattle.log_base.specs.ClusterShape.{Shape}
 use Rattle.log_model.specs.Storage.{Member}
-use Rattle.log_model.specs.Submitting.{submit}
 use Rattle.message_frame.specs.declared.messages.Message.{Message}
 use Rattle.message_frame.specs.declared.messages.Message.TheVariants.{Copy, CopyAck, Report, Least, Prepare, Promised, Lower, Accept, Accepted, Decide, Want}
 use Rattle.node_table.specs.declared.role.Role.{Role}
@@ -20,12 +19,12 @@ use Rattle.peer_copy.specs.declared.taking.Taking.TheVariants.{Put as IsNext, Ha
 use Rattle.record_frame.specs.declared.entries.Entry.{Entry}
 use Rattle.node_model.specs.Fits.{HasRange}
 use Rattle.node_model.specs.Legal.{IsLegal}
-use Rattle.node_model.specs.Marks.{Mode, Running, Stopped, flight_of}
+use Rattle.node_model.specs.Marks.{Running, Stopped, flight_of}
 use Rattle.node_model.specs.NodeState.{KeptLists, NodeState, Storing, Gathering, Ordering, node_after}
 use Rattle.node_model.specs.OrdererRow.{orderer_role}
 use Rattle.node_model.specs.StorageNode.{Put, Replica, StorageChange, StorageMode, StorageNode, member_of}
 use Rattle.node_model.specs.StorageRow.{call_row, copied_as, message_row, on_ask, on_copied, on_copy, on_decide, on_read, on_submit, on_tick, put_into, row, storage_role}
-use Rattle.node_model.proofs.Turning.{ForSome, for_some_at}
+use Rattle.node_model.proofs.Turning.{ForSome}
 use Rattle.safety_law.specs.Fit.{CanPut, IsGoodNode, IsReplicaMode}
 use Rattle.safety_law.specs.Lists.{Lists, lists_at}
 use Rattle.safety_law.proofs.History.{history_fits}

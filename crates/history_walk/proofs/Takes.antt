@@ -1,5 +1,5 @@
 -- Where a walker stands after one event more.
-use Rattle.std.proofs.Common.{◌≡◌, ◌<◌, ℕ, List, [], ◌∷◌, ◌++◌, length, map, refl, sym, ap, subst, ◌∙◌}
+use Rattle.std.proofs.Common.{◌≡◌, ◌<◌, ℕ, List, [], ◌∷◌, ◌++◌, map, refl, sym, ap, subst, ◌∙◌}
 use Rattle.std.specs.List.{AllByRecursion}
 use Rattle.reply_frame.specs.declared.replies.Reply.{Reply}
 use Rattle.history_frame.specs.declared.events.Event.{Event}
@@ -13,7 +13,6 @@ use Rattle.log_base.specs.declared.cluster_shape.Config.{Config}
 use Rattle.node_table.specs.Numbering.{nodes_of}
 use Rattle.node_model.specs.Histories.{letters_of}
 use Rattle.node_model.specs.Legal.{AgreesWith, IsLegal, IsNext}
-use Rattle.node_model.specs.Machine.{posted}
 use Rattle.node_model.specs.NodeState.{KeptLists}
 use Rattle.node_model.proofs.Following.{grown}
 use Rattle.history_walk.specs.Beginning.{AreNodes, MemoryNode}
@@ -44,29 +43,31 @@ module _ (walker : Walker) (kept : KeptLists) (events : List Event) (node : ℕ)
     event = event_of events node input mark outputs reply
 
     -- the event is as it was made, where it may come next
-    pub only_so : IsNext (shape walker.config) walker.run kept events event → (made.mark ≡ mark) × (reply ≡ made.reply) × (map posted outputs ≡ letters)
+    pub only_so : IsNext (shape walker.config) walker.run kept events event → (made.mark ≡ mark) × (reply ≡ made.reply) × (outputs ≡ made.outputs)
     only_so next =
-        let same = next_same (shape walker.config) walker.run kept events may.stands.legal node lt input may.offered made mark outputs reply stepped.input_is stepped.marked stepped.row next in
-        (same.0, same.1, same.2 ∙ sym stepped.letters_are)
+        next_same (shape walker.config) walker.run kept events may.stands.legal node lt input may.offered made mark outputs reply stepped.input_is stepped.marked stepped.row next
 
-    pub is_next : made.mark ≡ mark → reply ≡ made.reply → map posted outputs ≡ letters → AllByRecursion IsSent outputs → IsNext (shape walker.config) walker.run kept events event
-    is_next m r posts spelled =
-        same_follows (shape walker.config) walker.run kept events may.stands.legal node lt input may.offered made mark outputs reply stepped.input_is m (sym r) spelled (posts ∙ stepped.letters_are)
+    pub is_next : made.mark ≡ mark → reply ≡ made.reply → outputs ≡ made.outputs → IsNext (shape walker.config) walker.run kept events event
+    is_next m r alike =
+        same_follows (shape walker.config) walker.run kept events may.stands.legal node lt input may.offered made mark outputs reply stepped.input_is m (sym r) alike
         (may.submits mark outputs reply) stepped.row
 
     -- where it stands then
-    pub stands_more : (new : Walker) → new.config ≡ walker.config → new.run ≡ walker.run → new.nodes.items ≡ nodes → new.sent.items ≡ walker.sent.items ++ outputs ∷ []
+    pub stands_more : (new : Walker) → new.config ≡ walker.config → new.run ≡ walker.run → new.nodes.items ≡ nodes → new.sent.items ≡ walker.sent.items ++ made.outputs ∷ [] → outputs ≡ made.outputs
         → ((before : List Event) (e : Event) → AreNoted walker.submissions before → e.node.0 ≡ node → e.happened.input ≡ made.input → AllByRecursion (AgreesWith e) before
         → AreNoted new.submissions (before ++ e ∷ []))
         → made.mark ≡ mark → AllByRecursion IsSent outputs → IsNext (shape walker.config) walker.run kept events event → StandsAfter new kept (events ++ event ∷ [])
-    stands_more new c r n s noted m spelled next = record {
+    stands_more new c r n s alike noted m spelled next = record {
       legal = subst (λ (x : Config × ℕ). IsLegal (shape x.0) x.1 kept (events ++ event ∷ [])) (λ i. (sym c i, sym r i)) (record {
         config_in_range = may.stands.legal.config_in_range;
         sound = may.stands.legal.sound;
         follow = grown (shape walker.config) walker.run kept [] events event may.stands.legal.follow next;
       });
       stand = subst (λ (x : Config × List MemoryNode). AreNodes (shape x.0) kept (events ++ event ∷ []) x.1) (λ i. (sym c i, sym n i)) (stepped.stand event refl (sym stepped.input_is) (sym m));
-      letters = s ∙ ap (λ (l : List (List Sent)). l ++ outputs ∷ []) may.stands.letters ∙ sym (map_push letters_of events event);
-      spelled = subst (AllByRecursion (AllByRecursion IsSent)) (sym s) (all_push (AllByRecursion IsSent) walker.sent.items outputs may.stands.spelled spelled);
+      letters = pushed ∙ ap (λ (l : List (List Sent)). l ++ outputs ∷ []) may.stands.letters ∙ sym (map_push letters_of events event);
+      spelled = subst (AllByRecursion (AllByRecursion IsSent)) (sym pushed) (all_push (AllByRecursion IsSent) walker.sent.items outputs may.stands.spelled spelled);
       noted = noted events event may.stands.noted refl (sym stepped.input_is) next.one_node;
     }
+      where
+        pushed : new.sent.items ≡ walker.sent.items ++ outputs ∷ []
+        pushed = s ∙ ap (λ (l : List Sent). walker.sent.items ++ l ∷ []) (sym alike)

@@ -1,5 +1,5 @@
 -- The nodes of a cluster in memory, and as they begin.
-use Rattle.std.specs.Prelude.{◌≡◌, ℕ, suc, ◌*◌, ◌<◌, ◌≤◌, List, [], ◌∷◌, length, Some, slice_get}
+use Rattle.std.specs.Prelude.{◌≡◌, ℕ, suc, ◌≤◌, List, [], ◌∷◌, length, Some, slice_get}
 use Rattle.cut_chain.specs.Walk.{Walked}
 use Rattle.history_frame.specs.declared.events.Event.{Event}
 use Rattle.log_base.specs.ClusterShape.{Shape}

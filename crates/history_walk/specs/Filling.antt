@@ -10,6 +10,8 @@ use Rattle.message_frame.specs.declared.messages.Message.{Message}
 use Rattle.node_table.specs.Numbering.{role_at}
 use Rattle.node_model.specs.Fits.{IsInput}
 use Rattle.node_model.specs.Histories.{IsDelivered}
+use Rattle.history_walk.specs.declared.walker.Following.{Following}
+use Rattle.history_walk.specs.declared.walker.Following.TheVariants.{Follows, Breaks}
 
 -- the outputs of an event that may not be there, and the message of an output that may not be
 abbrev pub outputs_in : Option Event → List Sent
@@ -53,3 +55,8 @@ IsOffered config node before Restart = IsInput config (role_at config node) Rest
 abbrev pub IsFilled : Shape → ℕ → List Event → Input → Option Input → Type 0
 IsFilled config node before input None = IsOffered config node before (filled_input before input) → ⊥
 IsFilled config node before input (Some found) = (found ≡ filled_input before input) × IsOffered config node before found
+
+-- what was found, where it is put in the place of the written input
+abbrev pub filling : Following → Input → Option Input
+filling Follows input = Some input
+filling Breaks input = None

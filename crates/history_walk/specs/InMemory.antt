@@ -1,5 +1,5 @@
 -- A journal in memory, without a disk.
-use Rattle.std.specs.Prelude.{◌≡◌, ℕ, ◌+◌, ◌≤◌, ◌<◌, List, [], length, Option, IsSome, IfSome, is_some, option_to_list}
+use Rattle.std.specs.Prelude.{◌≡◌, ℕ, ◌+◌, ◌≤◌, ◌<◌, List, [], length, Option, IfSome, is_some, option_to_list}
 use Rattle.segment_journal.specs.Journalled.{AllPayloads, IsPayload, Journalled, Turns}
 use Rattle.segment_journal.specs.declared.journal.Installed.{Installed}
 

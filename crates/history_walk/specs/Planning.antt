@@ -1,5 +1,5 @@
 -- The plan by which the disks of a node turn out as a mark says.
-use Rattle.std.specs.Prelude.{◌≡◌, ◌<◌, Bool, true, false, Some}
+use Rattle.std.specs.Prelude.{◌≡◌, ◌<◌, true, false, Some}
 use Rattle.disk_base.specs.declared.disk.Plan.{Plan}
 use Rattle.history_frame.specs.declared.inputs.Mark.{Mark}
 use Rattle.history_frame.specs.declared.inputs.Mark.TheVariants.{Done, Halted, OpenedWithout, OpenedWith, StayedDown}

@@ -4,7 +4,6 @@ use Rattle.std.specs.List.{AllByRecursion}
 use Rattle.std.specs.Map.{lookup}
 use Rattle.agreement_law.specs.Elements.{In}
 use Rattle.history_frame.specs.declared.events.Event.{Event}
-use Rattle.log_base.specs.declared.numbers.NodeId.{NodeId}
 use Rattle.record_frame.specs.declared.entries.Entry.{Entry}
 use Rattle.node_model.specs.Legal.{AgreesWith, IsOfRun, submitted}
 use Rattle.history_walk.specs.declared.submissions.Pair.{Pair}

@@ -3,14 +3,13 @@ use Rattle.std.specs.Prelude.{◌≡◌, ℕ, List, [], ◌∷◌, ◌++◌, len
 use Rattle.std.specs.List.{AllByRecursion}
 use Rattle.reply_frame.specs.declared.replies.Reply.{Reply}
 use Rattle.history_frame.specs.declared.events.Event.{Event}
-use Rattle.history_frame.specs.declared.events.Happened.{Happened}
 use Rattle.history_frame.specs.declared.events.Sent.{Sent}
 use Rattle.history_frame.specs.declared.inputs.Input.{Input}
 use Rattle.history_frame.specs.declared.inputs.Mark.{Mark}
 use Rattle.history_frame.specs.Spelling.{IsSent}
 use Rattle.log_base.specs.Shape.{shape}
 use Rattle.node_model.specs.Histories.{letters_of}
-use Rattle.node_model.specs.Legal.{AgreesWith, IsLegal, IsNext}
+use Rattle.node_model.specs.Legal.{IsLegal, IsNext}
 use Rattle.node_model.specs.NodeState.{KeptLists}
 use Rattle.history_walk.specs.Beginning.{AreNodes}
 use Rattle.history_walk.specs.Filling.{IsOffered, filled_event}

@@ -8,6 +8,7 @@ mod laws;
 mod letters;
 mod lists;
 mod memory_journal;
+mod messages;
 mod replies;
 mod stepping;
 mod submissions;

@@ -3,7 +3,7 @@
 ghost use Rattle.std.specs.Prelude.{◌≡◌, IsTrue, ◌↔◌};
 ghost use Rattle.history_walk.specs.Replies.{IsNodeReply};
 
-use record_frame::Entry;
+use crate::messages::is_entry;
 use reply_frame::Reply;
 
 /// Whether a reply is the one that a node gives.
@@ -48,13 +48,4 @@ pub(crate) fn is_reply(reply: &Reply, given: &Reply) -> bool
         Reply::NotLeading => matches!(reply, Reply::NotLeading),
         _ => unreachable!(),
     }
-}
-
-// Whether two entries are the same.
-fn is_entry(entry: &Entry, given: &Entry) -> bool
-    ensures { IsTrue result ↔ (entry.now ≡ given.now) }
-{
-    entry.client == given.client
-        && entry.number == given.number
-        && entry.bytes.get() == given.bytes.get()
 }

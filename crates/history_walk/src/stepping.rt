@@ -1,6 +1,6 @@
 //! One event of one node, which turns out as a mark says.
 
-ghost use Rattle.std.specs.Prelude.{◌≡◌, ◌<◌, ℕ, List, map, Some, IfOk};
+ghost use Rattle.std.specs.Prelude.{◌≡◌, ◌<◌, ℕ, List, map, Some, OnOk};
 ghost use Rattle.history_frame.specs.declared.events.Event.{Event};
 ghost use Rattle.history_frame.specs.declared.inputs.Mark.{Mark};
 ghost use Rattle.log_base.specs.ClusterShape.{InRange};
@@ -17,51 +17,55 @@ use crate::beginning::MemoryNode;
 use disk_base::Plan;
 use history_frame::{Happened, Input, Mark};
 use log_base::{Config, Machine, Memory, NodeId, Outbox};
+use std::mem;
 
-/// What a node does with an input, where its disks turn out as the mark says. Where no row of the rules has
-/// that mark, another one comes.
+/// Puts what a node does with an input in a place, where its disks turn out as the mark says. Where no row of the
+/// rules has that mark, another one comes. The input is moved out of its place.
 pub(crate) fn step(
     node: &mut MemoryNode,
-    input: Input,
+    input: &mut Input,
     mark: Mark,
     out: &mut Outbox,
-) -> Result<Happened, Memory>
+    made: &mut Happened,
+) -> Result<(), Memory>
     requires in_range { InRange node.old.config }
     requires number { node.old.number < nodes_of node.old.config }
     requires flown { IsFlown node.old.config (state_in node.old) }
-    requires fits { Fits node.old.config (role_at node.old.config node.old.number) (state_in node.old) input }
-    ensures config { IfOk result (λ made. node.new.config ≡ node.old.config) }
-    ensures number { IfOk result (λ made. node.new.number ≡ node.old.number) }
-    ensures input { IfOk result (λ made. made.input ≡ input) }
-    ensures row { IfOk result (λ made. IsRow node.old.config node.old.number (state_in node.old) made) }
-    ensures state { IfOk result (λ made. state_in node.new ≡ state_after node.old.config node.old.number (state_in node.old) made) }
-    ensures letters { IfOk result (λ made. out.new.letters ≡ map posted made.outputs) }
-    ensures mark { IfOk result (λ made. (other : NodeOutcome) → node_outcome node.old.config node.old.number (state_in node.old) input mark ≡ Some other → made.mark ≡ mark) }
+    requires fits { Fits node.old.config (role_at node.old.config node.old.number) (state_in node.old) input.old }
+    ensures config { OnOk result (node.new.config ≡ node.old.config) }
+    ensures number { OnOk result (node.new.number ≡ node.old.number) }
+    ensures input { OnOk result (made.new.input ≡ input.old) }
+    ensures row { OnOk result (IsRow node.old.config node.old.number (state_in node.old) made.new) }
+    ensures state { OnOk result (state_in node.new ≡ state_after node.old.config node.old.number (state_in node.old) made.new) }
+    ensures letters { OnOk result (out.new.letters ≡ map posted made.new.outputs) }
+    ensures mark { OnOk result ((other : NodeOutcome) → node_outcome node.old.config node.old.number (state_in node.old) input.old mark ≡ Some other → made.new.mark ≡ mark) }
 {
     out.clear();
     node.plan(plan_of(mark));
     node.tell();
-    node.ready(&input, out)?;
-    Ok(node.step(input, out))
+    node.ready(input, out)?;
+    *made = node.step(mem::replace(input, Input::Tick), out);
+    Ok(())
 }
 
-/// What one of the nodes does with an input.
+/// Puts what one of the nodes does with an input in a place.
 pub(crate) fn step_at(
     config: &Config,
     nodes: &mut Vec<MemoryNode>,
     node: NodeId,
-    input: Input,
+    input: &mut Input,
     mark: Mark,
     out: &mut Outbox,
-) -> Result<Happened, Memory>
+    made: &mut Happened,
+) -> Result<(), Memory>
     requires node { node.0 < nodes_of (shape config.now) }
-    requires stand { (run : ℕ) × (kept : KeptLists) × (events : List Event) × MayStep (shape config.now) run kept events nodes.old.items node.0 input }
-    ensures { IfOk result (λ made. (run : ℕ) (kept : KeptLists) (events : List Event) → MayStep (shape config.now) run kept events nodes.old.items node.0 input
-        → HasStepped (shape config.now) kept events node.0 input mark made out.new.letters nodes.new.items) }
+    requires stand { (run : ℕ) × (kept : KeptLists) × (events : List Event) × MayStep (shape config.now) run kept events nodes.old.items node.0 input.old }
+    ensures { OnOk result ((run : ℕ) (kept : KeptLists) (events : List Event) → MayStep (shape config.now) run kept events nodes.old.items node.0 input.old
+        → HasStepped (shape config.now) kept events node.0 input.old mark made.new out.new.letters nodes.new.items) }
 {
     let _ = config;
-    let made = step(&mut nodes[usize::from(node.0)], input, mark, out)?;
-    Ok(made)
+    step(&mut nodes[usize::from(node.0)], input, mark, out, made)?;
+    Ok(())
 }
 
 // The plan by which disks turn out as a mark says.

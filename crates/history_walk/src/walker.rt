@@ -40,7 +40,6 @@ pub struct Walker {
     sent: Vec<List<Sent>>,
     submissions: Submissions,
     out: Outbox,
-    spelling: Vec<u8>,
 }
 
 impl Walker {
@@ -62,94 +61,87 @@ impl Walker {
             sent: Vec::new(alloc),
             submissions: Submissions::new(alloc),
             out: Outbox::new(alloc),
-            spelling: Vec::new(alloc),
         })
     }
 
-    /// Whether the event that a written one stands for may come next. After an event that may not, or want of
-    /// memory, nothing is said of the walker.
-    pub fn offer(&mut self, event: Event) -> Result<Following, Memory>
+    /// Whether the event that a written one stands for may come next. It is taken apart. After an event that may
+    /// not come, or want of memory, nothing is said of the walker.
+    pub fn offer(&mut self, event: &mut Event) -> Result<Following, Memory>
         requires stands { Stands self.old }
-        requires spelled { IsHappened event.happened }
-        requires fits { InputFits event.happened.input }
-        requires untold { TellsNoMessage event.happened.input }
+        requires spelled { IsHappened event.old.happened }
+        requires fits { InputFits event.old.happened.input }
+        requires untold { TellsNoMessage event.old.happened.input }
         ensures config { self.new.config ≡ self.old.config }
         ensures run { self.new.run ≡ self.old.run }
-        ensures answer { IfOk result (λ following. (kept : KeptLists) (events : Items Event) → StandsAfter self.old kept events → event.place ≡ length events
-            → IsAnswer self.old self.new kept events event following) }
+        ensures answer { IfOk result (λ following. (kept : KeptLists) (events : Items Event) → StandsAfter self.old kept events → event.old.place ≡ length events
+            → IsAnswer self.old self.new kept events event.old following) }
     {
-        let Event {
-            place: _,
-            node,
-            happened,
-        } = event;
-        let Happened {
-            input,
-            mark,
-            outputs,
-            reply,
-        } = happened;
+        let node = event.node;
         if node.0 >= nodes(&self.config) {
             return Ok(Following::Breaks);
         }
-        let found = fill(
+        let happened = &mut event.happened;
+        match fill(
             self.alloc,
             &self.config,
             node,
             &self.sent,
-            input,
-            &mut self.spelling,
-        )?;
-        let input = match found {
-            Some(input) => input,
-            None => return Ok(Following::Breaks),
-        };
-        if !self.submissions.may_take(self.run, node, &input) {
+            &mut happened.input,
+        )? {
+            Following::Follows => {}
+            Following::Breaks => return Ok(Following::Breaks),
+        }
+        if !self.submissions.may_take(self.run, node, &happened.input) {
             return Ok(Following::Breaks);
         }
-        let following = self.take(node, input, mark, outputs, &reply)?;
+        let following = self.take(node, happened)?;
         Ok(following)
     }
 
-    // Whether a node made this event of an input that may be handed to it.
-    fn take(
-        &mut self,
-        node: NodeId,
-        input: Input,
-        mark: Mark,
-        outputs: List<Sent>,
-        reply: &Reply,
-    ) -> Result<Following, Memory>
+    // Whether a node made this event, whose input may be handed to it.
+    fn take(&mut self, node: NodeId, happened: &mut Happened) -> Result<Following, Memory>
         requires node { node.0 < nodes_of (shape self.old.config) }
-        requires may { (kept : KeptLists) × (events : Items Event) × MayTake self.old kept events node.0 input }
-        requires spelled { AllByRecursion IsSent outputs }
+        requires may { (kept : KeptLists) × (events : Items Event) × MayTake self.old kept events node.0 happened.old.input }
+        requires spelled { AllByRecursion IsSent happened.old.outputs }
         ensures config { self.new.config ≡ self.old.config }
         ensures run { self.new.run ≡ self.old.run }
-        ensures taken { IfOk result (λ following. (kept : KeptLists) (events : Items Event) → MayTake self.old kept events node.0 input
-            → IsTaken self.old self.new kept events node.0 input mark outputs reply.now following) }
+        ensures taken { IfOk result (λ following. (kept : KeptLists) (events : Items Event) → MayTake self.old kept events node.0 happened.old.input
+            → IsTaken self.old self.new kept events node.0 happened.old.input happened.old.mark happened.old.outputs happened.old.reply following) }
     {
         // Buffers that an event left over are not kept: they would grow with the history.
         self.out = Outbox::new(self.alloc);
-        let made = step_at(
+        let mut made = nothing(self.alloc);
+        step_at(
             &self.config,
             &mut self.nodes,
             node,
-            input,
-            mark,
+            &mut happened.input,
+            happened.mark,
             &mut self.out,
+            &mut made,
         )?;
-        if !is_mark(made.mark, mark) {
+        if !is_mark(made.mark, happened.mark) {
             return Ok(Following::Breaks);
         }
-        if !is_reply(reply, &made.reply) {
+        if !is_reply(&happened.reply, &made.reply) {
             return Ok(Following::Breaks);
         }
-        if !are_letters(outputs.get(), &self.out, &mut self.spelling)? {
+        if !are_letters(happened.outputs.get(), made.outputs.get()) {
             return Ok(Following::Breaks);
         }
         self.submissions.take(node, made.input)?;
-        self.sent.push(outputs)?;
+        self.sent.push(made.outputs)?;
         Ok(Following::Follows)
+    }
+}
+
+// A place for what happens.
+fn nothing(alloc: Global) -> Happened {
+    Happened {
+        input: Input::Tick,
+        mark: Mark::Done,
+        outputs: List::of(Vec::new(alloc)),
+        reply: Reply::Nothing,
     }
 }
 

@@ -23,7 +23,7 @@ frames-preserved g c =
     let so_far = c.frames.invariant in
     let step = rw c.in-Ok-Goes.field-0-is at c.in-Ok-Goes.ensures.course in
     record {
-      judged = one_judged (left c.args.source.now) (unread c.judge_next.new.reader.pending (left c.judge_next.new.source)) c.judge_next.new.reader c.in-Ok-Goes.next so_far.judged.pieces c.frames._count so_far.judged.many
+      judged = one_judged (left c.args.source.now) (unread c.judge_next.new.reader.pending (left c.judge_next.new.source)) c.judge_next.new.reader c.judge_next.new.judge so_far.judged.pieces c.frames._count so_far.judged.many
           (step (left c.args.source.now) so_far.judged.pieces so_far.judged.stands);
       taken = takes_then 0 c.frames.reader.taken c.judge_next.new.reader.taken (left c.args.source.now) (left c.frames.source) (left c.judge_next.new.source) so_far.taken c.in-Ok-Goes.ensures.taken;
       later = omega (arith, so_far.later, c.in-Ok-Goes.ensures.later);

@@ -1,4 +1,4 @@
-use Rattle.std.proofs.Common.{◌≡◌, ◌∷◌, ◌++◌, [], ◌+◌, ◌*◌, ℕ, List, length, slice_get, Some, sym, ap, subst, arith, length-append, ◌∙◌}
+use Rattle.std.proofs.Common.{◌≡◌, ◌∷◌, ◌++◌, [], ◌+◌, ◌*◌, ℕ, List, length, slice_get, Some, sym, ap, subst, length-append, ◌∙◌}
 use Rattle.log_base.specs.Shape.{shape}
 use Rattle.node_model.specs.Sound.{payloads_on}
 use Rattle.history_walk.specs.Beginning.{IsNode, MemoryNode}

@@ -1,7 +1,5 @@
 use Rattle.std.proofs.Common.{◌≡◌, ◌+◌, ◌*◌, ◌≤◌, ℕ, arith, ap, ◌∙◌}
-use Rattle.log_base.specs.Shape.{shape}
 use Rattle.segment_journal.specs.Journalled.{loaded}
-use Rattle.node_table.specs.Numbering.{nodes_of}
 use Rattle.history_walk.proofs.Begun.{lists_behind, loaded_of}
 use Rattle.history_walk.proofs.beginning.begin_node.Goals as goal
 

@@ -1,9 +1,9 @@
-use Rattle.std.proofs.Common.{◌≡◌, Some, None, refl, sym, ap, ◌∙◌}
+use Rattle.std.proofs.Common.{refl, sym, ap, ◌∙◌}
 use Rattle.std.proofs.lemmas.Option.{none-some}
 use Rattle.log_base.specs.Shape.{shape}
 use Rattle.node_table.specs.Numbering.{role_at}
 use Rattle.paxos_acceptor.specs.Listed.{bad_offset}
-use Rattle.history_walk.proofs.Begun.{none_is_bad, orderer_begun}
+use Rattle.history_walk.proofs.Begun.{none_is_bad}
 use Rattle.history_walk.proofs.beginning.begin_orderer.Goals as goal
 
 pub unreachable-requires : goal.unreachable-requires

@@ -1,7 +1,6 @@
-use Rattle.std.proofs.Common.{◌≡◌, ◌+◌, ◌<◌, ℕ, length, refl, sym, subst, arith}
+use Rattle.std.proofs.Common.{◌+◌, ◌<◌, refl, sym, subst, arith}
 use Rattle.log_base.specs.Shape.{shape}
 use Rattle.node_table.specs.Numbering.{role_at}
-use Rattle.segment_journal.specs.Journalled.{Journalled}
 use Rattle.shard_replica.specs.Lists.{HoldsRecords, segments_of}
 use Rattle.history_walk.specs.Beginning.{journal_in}
 use Rattle.history_walk.proofs.Begun.{holds_loaded, loaded_at, no_flight, no_flight_one, records, replica_begun}

@@ -1,20 +1,18 @@
-use Rattle.std.proofs.Common.{◌≡◌, Some, None, sym, subst, ◌∙◌}
-use Rattle.std.proofs.lemmas.Option.{none-some}
+use Rattle.std.proofs.Common.{◌≡◌, sym, subst, rules}
+use Rattle.std.specs.Prelude.{is_some, if◌then◌else◌}
 use Rattle.history_frame.specs.declared.inputs.Input.{Input}
 use Rattle.history_frame.specs.declared.inputs.Input.TheVariants.{Deliver}
 use Rattle.log_base.specs.Shape.{shape}
-use Rattle.history_walk.specs.Filling.{IsFilled}
-use Rattle.history_walk.proofs.Filled.{letter_filled, letter_none}
+use Rattle.history_walk.specs.Filling.{IsFilled, filling}
+use Rattle.history_walk.specs.declared.walker.Following.TheVariants.{Follows, Breaks}
+use Rattle.history_walk.proofs.Filled.{letter_told}
 use Rattle.history_walk.proofs.filling.fill.Goals as goal
-
-pub returns-in-None : goal.returns-in-None
-returns-in-None c events e =
-    subst (λ (i : Input). IsFilled (shape c.args.config.now) c.args.node.0 events i None) (sym c.in-Deliver.is)
-    (letter_none events c.args.node.0 c.in-Deliver.place c.in-Deliver.index (shape c.args.config.now) c.args.sent.now c.in-Deliver.message e
-    (λ message found. none-some message (sym c.in-None.is ∙ (c.in_ok-message-in-Deliver.ensures message).1 found)))
 
 pub returns-in-Deliver : goal.returns-in-Deliver
 returns-in-Deliver c events e =
-    subst (λ (i : Input). IsFilled (shape c.args.config.now) c.args.node.0 events i (Some (Deliver c.in-Deliver.place c.in-Deliver.index (Some c.in-Some.message)))) (sym c.in-Deliver.is)
-    (letter_filled events c.args.node.0 c.in-Deliver.place c.in-Deliver.index (shape c.args.config.now) c.args.sent.now c.in-Deliver.message c.in-Some.message e
-    ((c.in_ok-message-in-Deliver.ensures c.in-Some.message).0 c.in-Some.is))
+    let told = c.letter_to.new.message in
+    let following = c.following_of.result in
+    let is : following ≡ (if is_some told then Follows else Breaks) = search rules in
+    subst (λ (i : Input). IsFilled (shape c.args.config.now) c.args.node.0 events i (filling following (Deliver c.in-Deliver.place c.in-Deliver.index told))) (sym c.in-Deliver.is)
+    (letter_told events c.args.node.0 c.in-Deliver.place c.in-Deliver.index (shape c.args.config.now) c.args.sent.now c.in-Deliver.message told following e
+    c.in_ok-letter_to-in-Deliver.ensures is)

@@ -1,11 +1,8 @@
-use Rattle.std.proofs.Common.{◌≡◌, ◌<◌, ◌∷◌, [], ℕ, suc, drop, length, map, sym, ap, ◌∙◌, subst, arith, rules, refl}
+use Rattle.std.proofs.Common.{◌<◌, length, sym, subst, arith, rules}
 use Rattle.std.proofs.lemmas.Iterator.Adapters.{YieldsList-from_vec}
-use Rattle.std.proofs.lemmas.Iterator.Consumers.{YieldsList-so_far, YieldsList-turn, YieldsList-end}
-use Rattle.history_frame.specs.declared.events.Kept.{Kept}
-use Rattle.node_model.specs.Sound.{payloads_on}
-use Rattle.storage_node.proofs.Elements.{split-here, taken-all}
+use Rattle.std.proofs.lemmas.Iterator.Consumers.{YieldsList-so_far, YieldsList-turn}
+use Rattle.storage_node.proofs.Elements.{split-here}
 use Rattle.segment_journal.specs.Journalled.{Journalled}
-use Rattle.history_walk.specs.Beginning.{AreLists}
 use Rattle.history_walk.proofs.Keeping.{lists_more, short_next}
 use Rattle.history_walk.proofs.lists.lists_of.Goals as goal
 

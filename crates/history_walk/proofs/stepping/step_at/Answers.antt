@@ -5,7 +5,7 @@ use Rattle.log_base.specs.ClusterShape.{Shape}
 use Rattle.log_base.specs.Shape.{shape}
 use Rattle.node_model.specs.NodeState.{KeptLists}
 use Rattle.history_walk.specs.Beginning.{AreNodes, IsNode, MemoryNode}
-use Rattle.history_walk.specs.Stepped.{HasStepped, MayStep}
+use Rattle.history_walk.specs.Stepped.{HasStepped}
 use Rattle.history_walk.proofs.Steps.{fits_of, flown_of, has_stepped, here, in_range_of, number_of}
 use Rattle.node_table.specs.Numbering.{nodes_of}
 use Rattle.std.proofs.Common.{◌<◌, set}
@@ -43,8 +43,8 @@ step-requires-clause-fits c =
 
 pub returns : goal.returns
 returns c run kept events may =
-    subst (λ (k : ℕ). HasStepped (shape c.args.config.now) kept events c.args.node.0 c.args.input c.args.mark c.in_ok-made.made c.step.new.out.letters (set c.args.nodes.now.items k c.step.new.node)) (sym c.from.ensures)
-    (has_stepped (shape c.args.config.now) run kept events c.args.nodes.now.items c.args.node.0 c.args.input may c.requires.node c.index_mut.result.now
+    subst (λ (k : ℕ). HasStepped (shape c.args.config.now) kept events c.args.node.0 c.args.input.now c.args.mark c.step.new.made c.step.new.out.letters (set c.args.nodes.now.items k c.step.new.node)) (sym c.from.ensures)
+    (has_stepped (shape c.args.config.now) run kept events c.args.nodes.now.items c.args.node.0 c.args.input.now may c.requires.node c.index_mut.result.now
     (lent (shape c.args.config.now) kept events c.args.nodes.now.items c.args.node.0 c.from.result c.index_mut.result.now may.stand c.requires.node c.from.ensures c.index_mut.ensures.value)
-    c.args.mark c.step.new.node c.in_ok-made.made c.step.new.out.letters c.in_ok-made.ensures.config c.in_ok-made.ensures.number c.in_ok-made.ensures.input c.in_ok-made.ensures.row
-    c.in_ok-made.ensures.state c.in_ok-made.ensures.letters c.in_ok-made.ensures.mark)
+    c.args.mark c.step.new.node c.step.new.made c.step.new.out.letters c.in_ok-step.ensures.config c.in_ok-step.ensures.number c.in_ok-step.ensures.input c.in_ok-step.ensures.row
+    c.in_ok-step.ensures.state c.in_ok-step.ensures.letters c.in_ok-step.ensures.mark)

@@ -6,5 +6,5 @@ use Rattle.history_check.proofs.judge.Judge.take.Goals as goal
 
 pub returns-in-Reply : goal.returns-in-Reply
 returns-in-Reply c = λ pieces is comes.
-    subst (λ (piece : Piece). IsJudge c.args.self (pieces ++ piece ∷ [])) (sym c.in-Reply.is)
-    (reply_judged c.args.self pieces is (subst (Comes pieces) c.in-Reply.is comes))
+    subst (λ (piece : Piece). IsJudge c.args.self.now (pieces ++ piece ∷ [])) (sym c.in-Reply.is)
+    (reply_judged c.args.self.now pieces is (subst (Comes pieces) c.in-Reply.is comes))

@@ -1,5 +1,4 @@
 use Rattle.std.proofs.Common.{◌≡◌, IsTrue, false, true, refl}
-use Rattle.history_frame.specs.declared.events.Event.{Event}
 use Rattle.record_frame.specs.Entries.{entry_of}
 use Rattle.history_walk.proofs.Noting.{like_may, may_like, may_nothing, not_a_submit, not_of_run, submits_is}
 use Rattle.node_model.specs.Legal.{submitted}

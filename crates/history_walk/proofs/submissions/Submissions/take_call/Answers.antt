@@ -1,9 +1,7 @@
-use Rattle.std.proofs.Common.{◌≡◌, Bool, Bor, ℕ, ◌==◌, ◌&&◌, cond, List, Option, Some, None, true, false, ap, sym, refl, subst, ◌∙◌}
-use Rattle.std.proofs.lemmas.Option.{none-some}
+use Rattle.std.proofs.Common.{◌≡◌, Bool, Bor, ℕ, ◌==◌, ◌&&◌, cond, Option, Some, None, true, false, ap, sym, refl, ◌∙◌}
 use Rattle.std.proofs.lemmas.Result.{on_ok_weaker}
 use Rattle.std.specs.Option.{option_copied}
-use Rattle.std.specs.Prelude.{is_some, OnOk, Result, Ok, Err}
-use Rattle.history_frame.specs.declared.events.Event.{Event}
+use Rattle.std.specs.Prelude.{is_some}
 use Rattle.node_model.specs.Legal.{submitted}
 use Rattle.record_frame.specs.Entries.{entry_of}
 use Rattle.history_walk.specs.declared.submissions.Submission.{Submission}
