@@ -129,7 +129,7 @@ impl PieceReader {
     {
         let _ = &self.taken;
         bytes.clear();
-        bytes.reserve(wanted)?;
+        bytes.reserve_exact(wanted)?;
         'bytes: while bytes.len() < wanted {
             match self.refill(source) {
                 Ok(()) => {}

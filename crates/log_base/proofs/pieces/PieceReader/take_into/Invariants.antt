@@ -1,4 +1,4 @@
-use Rattle.std.proofs.Common.{◌≡◌, ℕ, ◌-◌, ◌<◌, ◌≤◌, vec_len, vec_capacity, get_or}
+use Rattle.std.proofs.Common.{ℕ, ◌-◌, ◌<◌, ◌≤◌, vec_len, vec_capacity, get_or}
 use Rattle.std.specs.Io.KnownBytes.{Consumes}
 use Rattle.log_base.specs.Outside.{unread, TakesOn}
 use Rattle.log_base.proofs.pieces.PieceReader.take_into.Given as goal
