@@ -142,3 +142,13 @@ fn a_reader_fills_a_buffer_again(rt: HostRuntime) -> Result<(), Fail> {
     }
     Ok(())
 }
+
+#[test]
+fn an_outbox_makes_room_again(rt: HostRuntime) {
+    let mut out = Outbox::new(rt.alloc());
+    for bytes in [5, 4, 4_097] {
+        assert!(rt; out.ready(bytes).is_ok());
+        out.reset();
+        assert_eq!(rt; out.len(), 0);
+    }
+}
