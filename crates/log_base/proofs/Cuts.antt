@@ -1,8 +1,8 @@
 -- A list cut in two at a place, as a reader moves over its bytes.
-use Rattle.std.proofs.Common.{◌≡◌, ℕ, ◌+◌, ◌-◌, ◌<◌, ◌≤◌, List, [], ◌∷◌, ◌++◌, length, take, drop, min, Option, None, Some, refl, sym, ap, ◌∙◌, append_assoc, arith}
+use Rattle.std.proofs.Common.{◌≡◌, ℕ, ◌+◌, ◌-◌, ◌≤◌, List, [], ◌++◌, length, take, drop, Option, None, Some, sym, ap, ◌∙◌, append_assoc, arith}
 use Rattle.std.proofs.Math.Seq.{take-add}
 use Rattle.std.specs.Io.KnownBytes.{Consumes, prepend_known}
-use Rattle.std.proofs.lemmas.List.{take-append-drop, drop-drop, take_at, drop_all, drop-take, take-take, take_rest, length-take-le, length-drop, length-take}
+use Rattle.std.proofs.lemmas.List.{take-append-drop, drop-drop, take_at, drop_all, drop-take, take-take, take_rest, length-take-le, length-drop}
 
 -- n elements from a place, and those after them
 pub drop-split : (bytes : List ℕ) (at n : ℕ) → drop at bytes ≡ take n (drop at bytes) ++ drop (at + n) bytes

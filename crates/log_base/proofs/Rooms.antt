@@ -1,47 +1,47 @@
 -- What a letter takes of the spare buffers, and what a row of letters needs of them.
-use Rattle.std.proofs.Common.{◌≡◌, ℕ, suc, ◌+◌, ◌<◌, ◌≤◌, Bool, true, false, not, cond, ◌||◌, List, [], ◌∷◌, ◌++◌, map, length, get_or, refl, ◌∙◌, ap, subst, arith, nat_le, IsTrue}
+use Rattle.std.proofs.Common.{◌≡◌, ℕ, suc, ◌+◌, ◌<◌, ◌≤◌, Bool, true, false, not, cond, ◌||◌, List, [], ◌∷◌, ◌++◌, length, get_or, refl, ◌∙◌, ap, subst, arith, nat_le, IsTrue}
 use Rattle.std.specs.List.{list_any, position_or_len, remove}
 use borrow.Author.Tests.{leb-true, leb-false}
 use Rattle.std.proofs.lemmas.List.Folds.{list_any-append}
 use Rattle.log_base.specs.Outgoing.{HasRoom, rooms_after, have_rooms, HasRooms}
 
-module _ {X : Type 0} (room_of : X → ℕ) (n : ℕ) where
+module _ (n : ℕ) where
   -- the place of the first buffer with room, or their number
-  abbrev pub first_with_room : List X → ℕ
-  first_with_room spares = position_or_len (λ spare. nat_le n (room_of spare)) spares
+  abbrev pub first_with_room : List ℕ → ℕ
+  first_with_room spares = position_or_len (λ spare. nat_le n spare) spares
 
   -- it is one of them
-  pub first-within : (spares : List X) → HasRoom n (map room_of spares) → first_with_room spares < length spares
+  pub first-within : (spares : List ℕ) → HasRoom n spares → first_with_room spares < length spares
   first-within [] h = cc
-  first-within (spare ∷ spares) h = next (nat_le n (room_of spare)) (list_any (nat_le n) (map room_of spares)) (first_with_room spares) (length spares) h (first-within spares)
+  first-within (spare ∷ spares) h = next (nat_le n spare) (list_any (nat_le n) spares) (first_with_room spares) (length spares) h (first-within spares)
     where
       next : (b any : Bool) (at len : ℕ) → IsTrue (b || any) → (IsTrue any → at < len) → cond (not b) (1 + at) 0 < suc len
       next true any at len h below = omega arith
       next false any at len h below = let k = below h in omega arith
 
   -- it has room
-  pub first-room : (spares : List X) (d : X) → HasRoom n (map room_of spares) → n ≤ room_of (get_or spares (first_with_room spares) d)
+  pub first-room : (spares : List ℕ) (d : ℕ) → HasRoom n spares → n ≤ get_or spares (first_with_room spares) d
   first-room [] d h = cc
-  first-room (spare ∷ spares) d h = next (nat_le n (room_of spare)) (list_any (nat_le n) (map room_of spares)) (first_with_room spares) (leb-true n (room_of spare)) h (first-room spares d)
+  first-room (spare ∷ spares) d h = next (nat_le n spare) (list_any (nat_le n) spares) (first_with_room spares) (leb-true n spare) h (first-room spares d)
     where
-      next : (b any : Bool) (at : ℕ) → (b ≡ true → n ≤ room_of spare) → IsTrue (b || any) → (IsTrue any → n ≤ room_of (get_or spares at d))
-          → n ≤ room_of (get_or (spare ∷ spares) (cond (not b) (1 + at) 0) d)
+      next : (b any : Bool) (at : ℕ) → (b ≡ true → n ≤ spare) → IsTrue (b || any) → (IsTrue any → n ≤ get_or spares at d)
+          → n ≤ get_or (spare ∷ spares) (cond (not b) (1 + at) 0) d
       next true any at fits h other = fits refl
       next false any at fits h other =
           let e : suc at ≡ 1 + at = omega arith in
-          subst (λ (k : ℕ). n ≤ room_of (get_or (spare ∷ spares) k d)) e (other h)
+          subst (λ (k : ℕ). n ≤ get_or (spare ∷ spares) k d) e (other h)
 
   -- and without it the others' rooms are those after the letter
-  pub first-removed : (spares : List X) → map room_of (remove spares (first_with_room spares)) ≡ rooms_after n (map room_of spares)
+  pub first-removed : (spares : List ℕ) → remove spares (first_with_room spares) ≡ rooms_after n spares
   first-removed [] = refl
-  first-removed (spare ∷ spares) = next (nat_le n (room_of spare)) (first_with_room spares) (rooms_after n (map room_of spares)) (first-removed spares)
+  first-removed (spare ∷ spares) = next (nat_le n spare) (first_with_room spares) (rooms_after n spares) (first-removed spares)
     where
-      next : (b : Bool) (at : ℕ) (after : List ℕ) → map room_of (remove spares at) ≡ after
-          → map room_of (remove (spare ∷ spares) (cond (not b) (1 + at) 0)) ≡ cond b (map room_of spares) (room_of spare ∷ after)
+      next : (b : Bool) (at : ℕ) (after : List ℕ) → remove spares at ≡ after
+          → remove (spare ∷ spares) (cond (not b) (1 + at) 0) ≡ cond b spares (spare ∷ after)
       next true at after h = refl
       next false at after h =
           let e : suc at ≡ 1 + at = omega arith in
-          subst (λ (k : ℕ). map room_of (remove (spare ∷ spares) k) ≡ room_of spare ∷ after) e (ap (λ (l : List ℕ). room_of spare ∷ l) h)
+          subst (λ (k : ℕ). remove (spare ∷ spares) k ≡ spare ∷ after) e (ap (λ (l : List ℕ). spare ∷ l) h)
 
 -- a number is at most itself
 at_most_itself : (n : ℕ) → nat_le n n ≡ true

@@ -17,6 +17,7 @@ mod pieces;
 mod sending;
 mod sinks;
 mod sources;
+mod spares;
 
 pub use big_endian::{
     number_read, number_u16, number_u32, number_u64, number_written, put_bytes, put_u8, put_u16,

@@ -1,11 +1,11 @@
 //! Letters on their way out of a node.
 
-ghost use Rattle.std.specs.Prelude.{◌≡◌, ◌+◌, ◌<◌, ◌≤◌, [], ◌∷◌, ◌++◌, map, length, vec_len, vec_capacity, nat_le, is_ok, if◌then◌else◌, slice_set};
-ghost use Rattle.std.specs.List.{position_or_len};
+ghost use Rattle.std.specs.Prelude.{◌≡◌, ◌<◌, [], ◌∷◌, ◌++◌, length, vec_len, vec_capacity, is_ok, if◌then◌else◌, slice_set};
 ghost use Rattle.log_base.specs.Outgoing.{Outgoing, letter_at, HasRoom, rooms_after};
 
 use crate::numbers::NodeId;
 use crate::outside::Memory;
+use crate::spares::{Kept, Spare, take_spare};
 use std::alloc::Global;
 use std::marker::Model;
 use std::mem;
@@ -55,16 +55,17 @@ impl Parcel {
 pub struct Outbox {
     alloc: Global,
     letters: Vec<Parcel>,
-    spares: Vec<Vec<u8>>,
+    spares: Vec<Spare>,
+    kept: Kept,
 }
 
 impl Model for Outbox {
-    ghost use Rattle.std.specs.Prelude.{◌+◌, ◌≤◌, map, vec_len, vec_capacity};
+    ghost use Rattle.std.specs.Prelude.{◌+◌, ◌≤◌, vec_len, vec_capacity};
     ghost use Rattle.log_base.specs.Outgoing.{Outgoing};
 
     ghost Value = { Outgoing };
 
-    ghost view = { λ o. record { letters = o.letters.items; rooms = map vec_capacity o.spares.items } };
+    ghost view = { λ o. record { letters = o.letters.items; rooms = o.spares.items } };
 
     ghost invariant = { λ o. vec_len o.letters + vec_len o.spares ≤ vec_capacity o.letters };
 }
@@ -78,6 +79,7 @@ impl Outbox {
             alloc,
             letters: Vec::new(alloc),
             spares: Vec::new(alloc),
+            kept: Kept::new(alloc),
         }
     }
 
@@ -121,13 +123,22 @@ impl Outbox {
         self.letters.clear();
     }
 
+    /// Drops all letters and spare buffers, but for the memory of some buffers, which spare buffers that are
+    /// added later have.
+    pub fn reset(&mut self)
+        ensures { self.new ≡ record { letters = []; rooms = [] } }
+    {
+        keep_letters(&mut self.letters, &mut self.kept);
+        keep_spares(&mut self.spares, &mut self.kept);
+    }
+
     /// Adds a spare buffer with room for that many bytes. After `Memory` there is no new one.
     pub fn ready(&mut self, bytes: u32) -> Result<(), Memory>
         ensures letters { self.new.letters ≡ self.old.letters }
         ensures rooms { self.new.rooms ≡ (if is_ok result then self.old.rooms ++ bytes ∷ [] else self.old.rooms) }
     {
         self.letters.reserve(self.spares.len() + 1)?;
-        let spare = Vec::with_capacity(self.alloc, bytes as usize)?;
+        let spare = Spare::make(self.alloc, &mut self.kept, bytes)?;
         self.spares.push(spare)?;
         Ok(())
     }
@@ -144,27 +155,23 @@ impl Outbox {
     }
 }
 
-/// Takes the first buffer that has room for that many bytes out of the others.
-fn take_spare(spares: &mut Vec<Vec<u8>>, bytes: usize) -> Vec<u8>
-    requires { HasRoom bytes (map vec_capacity spares.old.items) }
-    ensures empty { result.items ≡ [] }
-    ensures len { vec_len result ≡ 0 }
-    ensures room { bytes ≤ vec_capacity result }
-    ensures rest { map vec_capacity spares.new.items ≡ rooms_after bytes (map vec_capacity spares.old.items) }
-    ensures fewer { vec_len spares.new + 1 ≡ vec_len spares.old }
+/// Takes the letters out, and keeps their buffers.
+fn keep_letters(letters: &mut Vec<Parcel>, kept: &mut Kept)
+    ensures items { letters.new.items ≡ [] }
+    ensures len { vec_len letters.new ≡ 0 }
+    ensures capacity { vec_capacity letters.new ≡ vec_capacity letters.old }
 {
-    let at = oldest_with_room(spares, bytes);
-    let mut buffer = spares.remove(at);
-    buffer.clear();
-    buffer
+    'letters: while let Some(letter) = letters.pop() {
+        kept.keep(letter.bytes);
+    }
 }
 
-/// The place of the first buffer that has room for that many bytes, or their number where none has.
-fn oldest_with_room(spares: &[Vec<u8>], bytes: usize) -> usize
-    ensures { result ≡ position_or_len (λ spare. nat_le bytes (vec_capacity spare)) spares.now }
+/// Takes the spare buffers out, and keeps them.
+fn keep_spares(spares: &mut Vec<Spare>, kept: &mut Kept)
+    ensures items { spares.new.items ≡ [] }
+    ensures len { vec_len spares.new ≡ 0 }
 {
-    spares
-        .iter()
-        .position(|spare| spare.capacity() >= bytes)
-        .unwrap_or(spares.len())
+    'spares: while let Some(spare) = spares.pop() {
+        kept.keep(spare.into_buffer());
+    }
 }

@@ -106,19 +106,41 @@ impl PieceReader {
         ensures later { S.faults source.old ≤ S.faults source.new }
         ensures read { result ≡ Err Stop.Read → Rose (S.faults source.old) (S.faults source.new) }
     {
+        let mut bytes = Vec::new(alloc);
+        self.take_into(source, wanted, &mut bytes)?;
+        Ok(bytes)
+    }
+
+    /// The same, with the bytes in place of those that a buffer had. After an error it holds what was read.
+    pub fn take_into<S: Source>(
+        &mut self,
+        source: &mut S,
+        wanted: usize,
+        bytes: &mut Vec<u8>,
+    ) -> Result<(), Stop>
+        ensures bytes { OnOk result (Consumes (unread self.old.pending (S.left source.old)) (unread self.new.pending (S.left source.new)) bytes.new.items) }
+        ensures count { OnOk result (length bytes.new.items ≤ wanted) }
+        ensures short { OnOk result (length bytes.new.items < wanted → IsAtEnd (unread self.new.pending (S.left source.new))) }
+        ensures fits { OnOk result ((k : ℕ) → slice_index bytes.new.items k < 256) }
+        ensures err { OnErr result (ReadsOn (unread self.old.pending (S.left source.old)) (unread self.new.pending (S.left source.new))) }
+        ensures taken { TakesOn self.old.taken self.new.taken (S.left source.old) (S.left source.new) }
+        ensures later { S.faults source.old ≤ S.faults source.new }
+        ensures read { result ≡ Err Stop.Read → Rose (S.faults source.old) (S.faults source.new) }
+    {
         let _ = &self.taken;
-        let mut bytes = Vec::with_capacity(alloc, wanted)?;
+        bytes.clear();
+        bytes.reserve_exact(wanted)?;
         'bytes: while bytes.len() < wanted {
             match self.refill(source) {
                 Ok(()) => {}
                 Err(_) => return Err(Stop::Read),
             }
             if self.is_used_up() {
-                return Ok(bytes);
+                return Ok(());
             }
-            self.give(&mut bytes, wanted);
+            self.give(bytes, wanted);
         }
-        Ok(bytes)
+        Ok(())
     }
 
     fn is_used_up(&self) -> bool

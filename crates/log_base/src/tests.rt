@@ -129,3 +129,26 @@ fn a_reader_joins_the_pieces_of_its_source(rt: HostRuntime) -> Result<(), Fail> 
     assert_eq!(rt; last.len(), 0);
     Ok(())
 }
+
+#[test]
+fn a_reader_fills_a_buffer_again(rt: HostRuntime) -> Result<(), Fail> {
+    let bytes = vec![in rt.alloc(); 7; 10]?;
+    let mut source = MemorySource::new(bytes, 8, Vec::new(rt.alloc()));
+    let mut reader = PieceReader::new();
+    let mut buffer = vec![in rt.alloc(); 1]?;
+    for (wanted, count) in [(6, 6), (6, 4)] {
+        assert!(rt; reader.take_into(&mut source, wanted, &mut buffer).is_ok());
+        assert_eq!(rt; buffer.len(), count);
+    }
+    Ok(())
+}
+
+#[test]
+fn an_outbox_makes_room_again(rt: HostRuntime) {
+    let mut out = Outbox::new(rt.alloc());
+    for bytes in [5, 4, 4_097] {
+        assert!(rt; out.ready(bytes).is_ok());
+        out.reset();
+        assert_eq!(rt; out.len(), 0);
+    }
+}

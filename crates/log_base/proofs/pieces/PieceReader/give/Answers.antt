@@ -1,4 +1,4 @@
-use Rattle.std.proofs.Common.{◌≡◌, ℕ, ◌+◌, ◌≤◌, ◌++◌, List, length, take, drop, sym, ap, ◌∙◌, arith}
+use Rattle.std.proofs.Common.{ℕ, ◌+◌, ◌≤◌, ◌++◌, List, length, take, drop, ap, ◌∙◌, arith}
 use Rattle.log_base.specs.Outside.{Piecewise}
 use Rattle.log_base.proofs.Cuts.{give_moves}
 use Rattle.log_base.proofs.pieces.PieceReader.give.Goals as goal

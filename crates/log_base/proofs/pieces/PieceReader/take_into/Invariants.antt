@@ -1,7 +1,7 @@
-use Rattle.std.proofs.Common.{◌≡◌, ℕ, ◌-◌, ◌<◌, ◌≤◌, vec_len, vec_capacity, get_or}
+use Rattle.std.proofs.Common.{ℕ, ◌-◌, ◌<◌, ◌≤◌, vec_len, vec_capacity, get_or}
 use Rattle.std.specs.Io.KnownBytes.{Consumes}
 use Rattle.log_base.specs.Outside.{unread, TakesOn}
-use Rattle.log_base.proofs.pieces.PieceReader.take.Given as goal
+use Rattle.log_base.proofs.pieces.PieceReader.take_into.Given as goal
 
 -- the bytes so far were taken from what was unread, and the count of faults has not fallen
 abbrev pub invariant-bytes : goal.invariant-bytes

@@ -1,9 +1,9 @@
-use Rattle.std.proofs.Common.{◌≡◌, ℕ, sym, subst, arith}
+use Rattle.std.proofs.Common.{ℕ, sym, subst, arith}
 use Rattle.std.proofs.KnownBytes.{Consumes-kept}
 use Rattle.log_base.specs.Outside.{TakesOn}
 use Rattle.log_base.proofs.Cuts.{moves_on}
-use Rattle.log_base.proofs.Taking.{takes_none, takes_then}
-use Rattle.log_base.proofs.pieces.PieceReader.take.Goals as goal
+use Rattle.log_base.proofs.Taking.{takes_then}
+use Rattle.log_base.proofs.pieces.PieceReader.take_into.Goals as goal
 
 -- the refill keeps what is unread, and what is given then leaves it
 pub bytes-preserved : goal.bytes-preserved
