@@ -13,12 +13,14 @@ use Rattle.record_frame.specs.declared.values.Lengths.{Lengths}
 use Rattle.record_frame.specs.declared.values.Value.{Value}
 use Rattle.record_frame.specs.declared.values.Value.TheVariants.{Noop, Cut, Add, Finalise, Trim}
 use Rattle.log_model.specs.Places.{place_at}
-use Rattle.log_model.specs.Lookup.{segment_index}
+use Rattle.log_model.specs.Lookup.{segment_index, position_from}
 use Rattle.log_model.specs.Chain.{ChainState, ShardState, Live as LiveStanding, Frozen, is_of, is_added, freeze, apply, chain_of, covered_of, covered_length, covered_in_shards, state_in, AreApart as ApartStates}
 use Rattle.log_model.specs.Spelling.{spell}
 use Rattle.log_model.proofs.States.{state_in-here, state_in-later, replicate-zero}
 use Rattle.log_model.proofs.Spelled.{spelled_where_covered}
 use Rattle.log_model.proofs.Growth.{chain_of-IsChain}
+use Rattle.log_model.proofs.Position.{position_from_none}
+use Rattle.log_model.proofs.Times.{times, contained_where_listed}
 use Rattle.shard_registry.specs.declared.answers.State.{State}
 use Rattle.shard_registry.specs.declared.answers.State.TheVariants.{Live, Finalised}
 use Rattle.shard_registry.specs.Order.{Order, number, is_shard, is_listed, state_in_order, added, ended_entry, finalised, state_of}
@@ -243,6 +245,20 @@ covered_from_kept config order covered places end mark count is = λ shard segme
     let below = (spelled_where_covered config.replicas is.values shard segment offset).0 inside in
     below_covered config.replicas covered order shard segment offset
     (subst (λ (c : ChainState). offset < covered_of c shard segment) (sym chain) below)
+
+none_listed : (n : ℕ) → (1 ≤ n → ⊥) → n ≡ 0
+none_listed zero never = refl
+none_listed (suc n) never = absurd (never (omega arith))
+
+-- A place past the covered length of its segment has no position.
+pub past_covered : (replicas : ℕ) (covered : List ℕ) (places : List Place) (place : Place) → AreCovered replicas covered places
+    → slice_index covered (segment_index replicas place.shard.0 place.segment.0) ≤ place.offset → position_from 0 places place ≡ None
+past_covered replicas covered places place below past =
+    position_from_none 0 places place
+    (none_listed (times places place)
+    (λ listed.
+    let inside = below place.shard.0 place.segment.0 place.offset (contained_where_listed places place listed) in
+    omega (arith, inside.1, past)))
 
 pub apart_from_kept : (config : Shape) (order : Order) (covered : List ℕ) (places : List Place) (end mark count : ℕ)
     → IsKept config order covered places end mark count → AreApart order
