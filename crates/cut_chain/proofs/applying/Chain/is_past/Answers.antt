@@ -1,7 +1,6 @@
-use Rattle.std.proofs.Common.{◌≡◌, ℕ, ◌≤◌, Option, None, sym, ap, ◌∙◌, subst, arith}
+use Rattle.std.proofs.Common.{ℕ, ◌≤◌, sym, ap, ◌∙◌, subst, arith}
 use Rattle.std.specs.Prelude.{slice_index}
 use Rattle.log_base.specs.Shape.{shape}
-use Rattle.log_base.specs.declared.numbers.Place.{Place}
 use Rattle.log_model.specs.Lookup.{segment_index, position_from}
 use Rattle.cut_chain.specs.Known.{Chained}
 use Rattle.cut_chain.proofs.Keeping.{covered_from_kept, past_covered}
