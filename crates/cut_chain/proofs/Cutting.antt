@@ -1,5 +1,5 @@
 -- A cut made step by step: segment after segment of a shard, and shard after shard of the order.
-use Rattle.std.proofs.Common.{◌≡◌, ◌≢◌, ℕ, zero, suc, ◌+◌, ◌-◌, ◌*◌, ◌<◌, ◌≤◌, max, false, List, [], ◌∷◌, ◌++◌, map, take, drop, length, Option, Some, refl, sym, ap, ◌∙◌, subst, ⊎_elim, ◌⊎◌, inl, inr, arith, append_assoc, length-append, add-one}
+use Rattle.std.proofs.Common.{◌≡◌, ◌≢◌, ℕ, zero, suc, ◌+◌, ◌-◌, ◌*◌, ◌<◌, ◌≤◌, max, false, List, [], ◌∷◌, ◌++◌, take, drop, length, Some, refl, sym, ap, ◌∙◌, subst, ⊎_elim, ◌⊎◌, inl, inr, arith, append_assoc}
 use Rattle.std.specs.Prelude.{slice_index, slice_set, slice_get}
 use Rattle.std.specs.List.{Contains}
 use Rattle.std.specs.Option.{option_map}
@@ -14,10 +14,10 @@ use Rattle.log_model.specs.Places.{place_at, places_from}
 use Rattle.log_model.specs.Lookup.{segment_index}
 use Rattle.log_model.specs.Chain.{ShardState, raised, cut_shard, covered_in_segments, covered_in_shard, covered_in_shards}
 use Rattle.shard_registry.specs.declared.answers.State.{State}
-use Rattle.shard_registry.specs.Order.{Order, number, shard_in, is_listed}
+use Rattle.shard_registry.specs.Order.{Order, shard_in, is_listed}
 use Rattle.cut_chain.specs.Covering.{stretch, lengths_of, standing_of, shard_state, shards_of, cut_shards, AreApart, AreCovered}
 use Rattle.cut_chain.proofs.Stretches.{stretch-same, stretch-raised}
-use Rattle.cut_chain.proofs.Apart.{listed_at, absent_before, absent_after, drop_at, take_at, shards-kept, first_other}
+use Rattle.cut_chain.proofs.Apart.{listed_at, absent_before, absent_after, drop_at, take_at, shards-kept}
 
 -- A place that stands in a run is of its segment, at an offset of it.
 pub run-get : (shard segment first count index : ℕ) (place : Place) → slice_get (places_from shard segment first count) index ≡ Some place

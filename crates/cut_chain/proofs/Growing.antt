@@ -1,10 +1,10 @@
 -- One more value after others makes known what they all make known.
-use Rattle.std.proofs.Common.{◌≡◌, ℕ, ◌+◌, List, [], ◌∷◌, ◌++◌, length, refl, sym, ap, ◌∙◌, length-append}
+use Rattle.std.proofs.Common.{◌≡◌, ℕ, ◌+◌, List, [], ◌∷◌, ◌++◌, length, sym, ap, ◌∙◌, length-append}
 use Rattle.std.proofs.lemmas.List.{append-nil}
 use Rattle.log_base.specs.ClusterShape.{Shape}
 use Rattle.log_base.specs.declared.numbers.Place.{Place}
 use Rattle.record_frame.specs.declared.values.Value.{Value}
-use Rattle.log_model.specs.Chain.{ChainState, chain_of, apply, covered_by}
+use Rattle.log_model.specs.Chain.{ChainState, chain_of, covered_by}
 use Rattle.log_model.specs.Spelling.{spell}
 use Rattle.log_model.proofs.Appending.{chain_of-append, spell-append}
 use Rattle.cut_chain.specs.Known.{Known, known_of, learned}

@@ -1,9 +1,9 @@
 -- What a chain knows after each value, and what its parts keep true.
-use Rattle.std.proofs.Common.{◌≡◌, ◌≢◌, ℕ, zero, suc, ◌+◌, ◌-◌, ◌*◌, ◌<◌, ◌≤◌, max, min, Bool, true, false, eqb, List, [], ◌∷◌, ◌++◌, map, length, replicate, Option, None, Some, is_some, refl, sym, ap, ◌∙◌, subst, ⊎_elim, ◌⊎◌, inl, inr, arith, length-append}
+use Rattle.std.proofs.Common.{◌≡◌, ℕ, zero, suc, ◌+◌, ◌*◌, ◌<◌, ◌≤◌, max, min, true, false, eqb, List, [], ◌∷◌, ◌++◌, map, length, replicate, Option, None, refl, sym, ap, ◌∙◌, subst, ⊎_elim, ◌⊎◌, inl, inr, arith, length-append}
 use Rattle.std.specs.Prelude.{slice_index}
 use Rattle.std.specs.List.{All, Contains}
 use Rattle.std.specs.Option.{option_map}
-use Rattle.std.proofs.lemmas.Bool.{cond-true, cond-false, cases_Bool, cases_eq, cases_lt, eqb-true, eq-eqb, ne_eqb, eqb-false}
+use Rattle.std.proofs.lemmas.Bool.{cond-true, cond-false, cases_Bool, cases_eq, cases_lt, eq-eqb, ne_eqb}
 use Rattle.std.proofs.lemmas.List.{append-nil, map-append}
 use Rattle.std.proofs.lemmas.List.Elements.{All-nil, All-push, All-map, All-weaker}
 use Rattle.log_base.specs.ClusterShape.{Shape}
@@ -13,17 +13,19 @@ use Rattle.record_frame.specs.declared.values.Lengths.{Lengths}
 use Rattle.record_frame.specs.declared.values.Value.{Value}
 use Rattle.record_frame.specs.declared.values.Value.TheVariants.{Noop, Cut, Add, Finalise, Trim}
 use Rattle.log_model.specs.Places.{place_at}
-use Rattle.log_model.specs.Lookup.{segment_index}
-use Rattle.log_model.specs.Chain.{ChainState, ShardState, Live as LiveStanding, Frozen, is_of, is_added, freeze, apply, chain_of, covered_of, covered_length, covered_in_shards, state_in, AreApart as ApartStates}
+use Rattle.log_model.specs.Lookup.{segment_index, position_from}
+use Rattle.log_model.specs.Chain.{ChainState, ShardState, Live as LiveStanding, Frozen, is_of, is_added, freeze, apply, covered_of, covered_length, covered_in_shards, state_in, AreApart as ApartStates}
 use Rattle.log_model.specs.Spelling.{spell}
 use Rattle.log_model.proofs.States.{state_in-here, state_in-later, replicate-zero}
 use Rattle.log_model.proofs.Spelled.{spelled_where_covered}
 use Rattle.log_model.proofs.Growth.{chain_of-IsChain}
+use Rattle.log_model.proofs.Position.{position_from_none}
+use Rattle.log_model.proofs.Times.{times, contained_where_listed}
 use Rattle.shard_registry.specs.declared.answers.State.{State}
 use Rattle.shard_registry.specs.declared.answers.State.TheVariants.{Live, Finalised}
 use Rattle.shard_registry.specs.Order.{Order, number, is_shard, is_listed, state_in_order, added, ended_entry, finalised, state_of}
-use Rattle.shard_registry.proofs.Follows.{state-entries_of, entries_of}
-use Rattle.cut_chain.specs.Covering.{stretch, lengths_of, shard_state, shards_of, cut_shards, AreApart, AreCovered}
+use Rattle.shard_registry.proofs.Follows.{state-entries_of}
+use Rattle.cut_chain.specs.Covering.{lengths_of, shard_state, shards_of, cut_shards, AreApart, AreCovered}
 use Rattle.cut_chain.specs.Known.{Known, known_of, learned}
 use Rattle.cut_chain.specs.Kept.{known_from, IsKept}
 use Rattle.cut_chain.proofs.Stretches.{stretch-index, stretch-past}
@@ -243,6 +245,20 @@ covered_from_kept config order covered places end mark count is = λ shard segme
     let below = (spelled_where_covered config.replicas is.values shard segment offset).0 inside in
     below_covered config.replicas covered order shard segment offset
     (subst (λ (c : ChainState). offset < covered_of c shard segment) (sym chain) below)
+
+none_listed : (n : ℕ) → (1 ≤ n → ⊥) → n ≡ 0
+none_listed zero never = refl
+none_listed (suc n) never = absurd (never (omega arith))
+
+-- A place past the covered length of its segment has no position.
+pub past_covered : (replicas : ℕ) (covered : List ℕ) (places : List Place) (place : Place) → AreCovered replicas covered places
+    → slice_index covered (segment_index replicas place.shard.0 place.segment.0) ≤ place.offset → position_from 0 places place ≡ None
+past_covered replicas covered places place below past =
+    position_from_none 0 places place
+    (none_listed (times places place)
+    (λ listed.
+    let inside = below place.shard.0 place.segment.0 place.offset (contained_where_listed places place listed) in
+    omega (arith, inside.1, past)))
 
 pub apart_from_kept : (config : Shape) (order : Order) (covered : List ℕ) (places : List Place) (end mark count : ℕ)
     → IsKept config order covered places end mark count → AreApart order

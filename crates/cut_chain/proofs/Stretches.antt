@@ -1,7 +1,6 @@
 -- Stretches of a list of lengths, and where the lengths of a shard stand.
-use Rattle.std.proofs.Common.{◌≡◌, ◌≢◌, ℕ, zero, suc, ◌+◌, ◌*◌, ◌<◌, ◌≤◌, max, List, [], ◌∷◌, length, replicate, refl, sym, ap, ◌∙◌, arith, ⊎_elim, get_or}
-use Rattle.std.specs.Prelude.{slice_index, slice_set}
-use Rattle.std.proofs.lemmas.Bool.{cases_order}
+use Rattle.std.proofs.Common.{◌≡◌, ℕ, zero, suc, ◌+◌, ◌*◌, ◌<◌, ◌≤◌, max, List, ◌∷◌, replicate, refl, ap, ◌∙◌, arith}
+use Rattle.std.specs.Prelude.{slice_index}
 use Rattle.log_model.specs.Chain.{raised}
 use Rattle.log_model.proofs.States.{replicate-zero}
 use Rattle.cut_chain.specs.Covering.{stretch, lengths_of, AreShort}

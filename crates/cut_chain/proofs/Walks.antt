@@ -1,7 +1,7 @@
 -- Look-ups in the places of a list of runs, and how many places there can be.
-use Rattle.std.proofs.Common.{◌≡◌, ◌≢◌, ℕ, zero, suc, ◌+◌, ◌-◌, ◌*◌, ◌^◌, ◌<◌, ◌≤◌, Bool, true, false, eqb, List, [], ◌∷◌, ◌++◌, map, length, Option, None, Some, refl, sym, ap, ◌∙◌, subst, ⊎_elim, drop, get_or, arith, append_assoc, length-append}
+use Rattle.std.proofs.Common.{◌≡◌, ◌≢◌, ℕ, zero, suc, ◌+◌, ◌-◌, ◌*◌, ◌^◌, ◌<◌, ◌≤◌, Bool, true, false, eqb, List, [], ◌∷◌, ◌++◌, map, length, None, Some, refl, sym, ap, ◌∙◌, subst, ⊎_elim, drop, get_or, arith, append_assoc}
 use Rattle.std.specs.Prelude.{slice_get, nat_le, nat_lt, ◌&&◌}
-use Rattle.std.specs.List.{All, AllByRecursion, Contains, IsDistinct, list_any}
+use Rattle.std.specs.List.{AllByRecursion, Contains, IsDistinct, list_any}
 use Rattle.std.specs.Cmp.{nat_eq_equiv}
 use Rattle.std.proofs.lemmas.Bool.{cond-true, cond-false, cases_Bool, eqb-true, eq-eqb, and_parts, and_from, ltb-true, lt-ltb}
 use Rattle.std.proofs.lemmas.List.{append-nil, map-append, length-map}
@@ -11,7 +11,7 @@ use Rattle.std.proofs.lemmas.Map.Steps.{length-le_from_distinct_below}
 use Rattle.log_base.specs.declared.numbers.Place.{Place}
 use Rattle.log_model.specs.Places.{place_at, places_from, is_same_place}
 use Rattle.log_model.specs.Lookup.{position_from}
-use Rattle.log_model.proofs.Times.{times, same_place, is_same_place-of_equal, is_same_place-itself, listed_where_contained, contained_where_listed}
+use Rattle.log_model.proofs.Times.{times, same_place, is_same_place-of_equal, listed_where_contained, contained_where_listed}
 use Rattle.std.proofs.lemmas.Option.{slice_get-get_or}
 use Rattle.cut_chain.specs.declared.runs.Run.{Run}
 use Rattle.cut_chain.specs.Runs.{run_places, places_of, offset_in, IsFresh}

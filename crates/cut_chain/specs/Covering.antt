@@ -1,6 +1,6 @@
 -- Covered lengths, kept in one list in the order of a cut's lengths: segment j of shard s stands at s times the
 -- replicas, plus j.
-use Rattle.std.specs.Prelude.{◌≡◌, ⊤, false, ℕ, zero, suc, ◌+◌, ◌*◌, ◌<◌, ◌≤◌, max, List, [], ◌∷◌, ◌++◌, map, length, slice_index}
+use Rattle.std.specs.Prelude.{◌≡◌, ⊤, false, ℕ, zero, suc, ◌*◌, ◌<◌, ◌≤◌, List, [], ◌∷◌, map, slice_index}
 use Rattle.std.specs.List.{Contains}
 use Rattle.log_base.specs.declared.numbers.Shard.{Shard}
 use Rattle.log_base.specs.declared.numbers.Place.{Place}

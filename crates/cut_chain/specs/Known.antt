@@ -1,5 +1,5 @@
 -- What a chain knows, and how one more value changes it.
-use Rattle.std.specs.Prelude.{ℕ, ◌+◌, ◌*◌, ◌<◌, ◌≤◌, ⊤, List, [], ◌∷◌, ◌++◌, length, slice_index}
+use Rattle.std.specs.Prelude.{ℕ, ◌+◌, ◌<◌, ◌≤◌, ⊤, List, ◌++◌, length, slice_index}
 use Rattle.log_base.specs.ClusterShape.{Shape}
 use Rattle.log_base.specs.declared.numbers.Place.{Place}
 use Rattle.record_frame.specs.declared.values.Value.{Value}

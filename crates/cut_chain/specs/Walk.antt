@@ -1,5 +1,5 @@
 -- What a plain list of runs keeps true, so that its places have positions of 64 bits.
-use Rattle.std.specs.Prelude.{ℕ, ◌+◌, ◌*◌, ◌^◌, ◌<◌, ◌≤◌, ◌==◌, List, map}
+use Rattle.std.specs.Prelude.{◌≡◌, ℕ, ◌+◌, ◌*◌, ◌^◌, ◌<◌, ◌≤◌, ◌==◌, List, length, map}
 use Rattle.std.specs.List.{All, AllByRecursion, IsDistinct}
 use Rattle.log_base.specs.declared.numbers.Place.{Place}
 use Rattle.cut_chain.specs.declared.runs.Run.{Run}
@@ -29,3 +29,8 @@ pub record IsWalk (runs : List Run) : Type 0 where
   pub ends : All Ends runs
   pub in_width : AllByRecursion IsInWidth (places_of runs)
   pub apart : IsDistinct (λ a b. a == b) (map place_number (places_of runs))
+
+-- such runs, and how many places they have
+pub record IsCounted (runs : List Run) (total : ℕ) : Type 0 where
+  pub walk : IsWalk runs
+  pub total_is : total ≡ length (places_of runs)

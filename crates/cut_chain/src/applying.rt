@@ -1,6 +1,6 @@
 //! The chain.
 
-ghost use Rattle.std.specs.Prelude.{◌≡◌, ◌<◌, ◌≤◌, ◌*◌, [], slice_get, IfOk, OnOk};
+ghost use Rattle.std.specs.Prelude.{◌≡◌, ◌<◌, ◌≤◌, ◌*◌, [], slice_get, IsTrue, IfOk, OnOk};
 ghost use Rattle.std.specs.Option.{option_map};
 ghost use Rattle.log_base.specs.Shape.{shape};
 ghost use Rattle.record_frame.specs.declared.values.Value.TheVariants.{Noop, Cut, Add, Finalise, Trim};
@@ -187,7 +187,22 @@ impl<P: Places> Chain<P> {
     pub fn position(&self, place: Place) -> Option<Position>
         ensures { result ≡ option_map to_position (position_from 0 self.now.known.places place) }
     {
+        if self.is_past(place) {
+            return None;
+        }
         self.places.position(place)
+    }
+
+    // Whether the place is of a segment of the config, past the covered length.
+    fn is_past(&self, place: Place) -> bool
+        ensures { IsTrue result → position_from 0 self.now.known.places place ≡ None }
+    {
+        if place.shard.0 >= u16::from(self.config.shards())
+            || place.segment.0 >= self.config.replicas()
+        {
+            return false;
+        }
+        place.offset >= self.covered[index_of(&self.config, place.shard, place.segment)]
     }
 
     /// Forgets all values.

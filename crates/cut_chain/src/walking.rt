@@ -1,33 +1,36 @@
 //! A plain list of runs, which look-ups walk.
 
-ghost use Rattle.std.specs.Prelude.{◌≡◌, ℕ, ◌<◌, ◌≤◌, ◌+◌, ◌^◌, [], ◌++◌, length, slice_get};
+ghost use Rattle.std.specs.Prelude.{◌≡◌, [], slice_get};
 ghost use Rattle.std.specs.List.{All};
 ghost use Rattle.std.specs.Option.{option_map};
 ghost use Rattle.log_model.specs.Lookup.{position_from};
 ghost use Rattle.cut_chain.specs.Runs.{places_of, to_position};
-ghost use Rattle.cut_chain.specs.Walk.{Ends};
+ghost use Rattle.cut_chain.specs.Walk.{Ends, IsCounted};
 
 use crate::{Places, Run};
 use log_base::{Memory, Place, Position};
 use std::alloc::Global;
 use std::marker::Model;
 
-/// The plain list of runs. A look-up takes time with the number of runs.
+/// The plain list of runs. A look-up takes time with the number of runs. That of a place begins with the newest,
+/// since places are mostly asked for soon after they were added.
 #[derive(Drop)]
 pub struct WalkPlaces {
     runs: Vec<Run>,
+    /// How many places there are.
+    total: u64,
 }
 
 impl Model for WalkPlaces {
     ghost use Rattle.std.specs.Prelude.{◌-◌, vec_len, vec_capacity};
     ghost use Rattle.cut_chain.specs.Runs.{places_of};
-    ghost use Rattle.cut_chain.specs.Walk.{Walked, IsWalk};
+    ghost use Rattle.cut_chain.specs.Walk.{Walked, IsCounted};
 
     ghost Value = { Walked };
 
     ghost view = { λ w. record { places = places_of w.runs.items; room = vec_capacity w.runs - vec_len w.runs } };
 
-    ghost invariant = { λ w. IsWalk w.runs.items };
+    ghost invariant = { λ w. IsCounted w.runs.items w.total };
 }
 
 impl WalkPlaces {
@@ -37,6 +40,7 @@ impl WalkPlaces {
     {
         WalkPlaces {
             runs: Vec::new(alloc),
+            total: 0,
         }
     }
 }
@@ -53,6 +57,7 @@ impl Places for WalkPlaces {
 
     fn add(&mut self, run: Run) {
         let _ = self.runs.push(run);
+        self.total += u64::from(run.count);
     }
 
     fn place(&self, position: Position) -> Option<Place> {
@@ -60,11 +65,12 @@ impl Places for WalkPlaces {
     }
 
     fn position(&self, place: Place) -> Option<Position> {
-        position_in(&self.runs, place)
+        position_in(&self.runs, self.total, place)
     }
 
     fn clear(&mut self) {
         self.runs.clear();
+        self.total = 0;
     }
 }
 
@@ -83,16 +89,18 @@ fn place_in(runs: &[Run], position: u64) -> Option<Place>
     None
 }
 
-fn position_in(runs: &[Run], place: Place) -> Option<Position>
-    requires { length (places_of runs.now) < 2 ^ 40 }
+// The place is looked for in the newest runs first.
+fn position_in(runs: &[Run], total: u64, place: Place) -> Option<Position>
+    requires { IsCounted runs.now total }
     ensures { result ≡ option_map to_position (position_from 0 (places_of runs.now) place) }
 {
-    let mut start: u64 = 0;
-    for run in runs {
+    let mut start = total;
+    for back in 0..runs.len() {
+        let run = &runs[runs.len() - 1 - back];
+        start -= u64::from(run.count);
         if let Some(index) = run.index(place) {
             return Some(Position(start + u64::from(index)));
         }
-        start += u64::from(run.count);
     }
     None
 }

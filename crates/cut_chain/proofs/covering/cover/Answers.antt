@@ -1,7 +1,5 @@
-use Rattle.std.proofs.Common.{◌≡◌, ◌<◌, ◌≤◌, ℕ, suc, ◌*◌, ◌+◌, ◌-◌, length, true, Some, is_some, sym, ap, ◌∙◌, arith}
-use Rattle.std.specs.Prelude.{slice_get, IsSome}
+use Rattle.std.proofs.Common.{◌≡◌, ◌<◌, ◌≤◌, ◌-◌, length, Some, is_some, sym, ap, ◌∙◌, arith}
 use Rattle.std.proofs.Math.Nat.{mul-le-mul_left}
-use Rattle.shard_registry.specs.declared.answers.State.{State}
 use Rattle.shard_registry.specs.Order.{state_in_order}
 use Rattle.cut_chain.proofs.Apart.{listed_at, entry_at, in_range_at, some_from}
 use Rattle.cut_chain.proofs.Cutting.{cut_begins, cut_goes_on, cut_ends, fewer_left}

@@ -1,4 +1,4 @@
-use Rattle.std.proofs.Common.{◌≡◌, ◌<◌, ◌≤◌, List, ℕ, sym, subst, ap, arith}
+use Rattle.std.proofs.Common.{◌<◌, List, sym, subst, ap, arith}
 use Rattle.std.specs.Prelude.{slice_index, slice_set}
 use Rattle.log_base.specs.declared.numbers.Place.{Place}
 use Rattle.log_model.specs.Lookup.{segment_index}

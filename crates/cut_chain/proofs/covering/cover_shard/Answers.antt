@@ -1,11 +1,8 @@
-use Rattle.std.proofs.Common.{◌≡◌, ◌<◌, ℕ, ◌*◌, ◌+◌, ◌++◌, max, ◌-◌, List, length, sym, subst, ap, ◌∙◌, arith, length-append}
+use Rattle.std.proofs.Common.{◌≡◌, ◌<◌, ℕ, ◌*◌, ◌+◌, max, ◌-◌, length, subst, ap, ◌∙◌, arith, length-append}
 use Rattle.std.specs.Prelude.{slice_index}
 use Rattle.std.proofs.lemmas.List.{length-set}
-use Rattle.log_base.specs.declared.numbers.Place.{Place}
 use Rattle.log_model.specs.Places.{places_from}
-use Rattle.log_model.specs.Chain.{raised, covered_in_segments}
 use Rattle.log_model.proofs.Runs.{length-places_from}
-use Rattle.cut_chain.specs.Covering.{lengths_of}
 use Rattle.cut_chain.proofs.Cutting.{PartOfShard, shard_begins, shard_goes_on, shard_ends, index_within}
 use Rattle.cut_chain.proofs.covering.cover_shard.Goals as goal
 

@@ -1,12 +1,7 @@
-use Rattle.std.proofs.Common.{◌≡◌, ℕ, ◌+◌, ◌<◌, ◌≤◌, max, min, List, [], length, refl, sym, ap, ◌∙◌, subst, arith}
-use Rattle.log_base.specs.ClusterShape.{Shape}
+use Rattle.std.proofs.Common.{ap, arith}
 use Rattle.log_base.specs.Shape.{shape}
-use Rattle.log_base.specs.declared.numbers.Place.{Place}
-use Rattle.record_frame.specs.declared.values.Value.TheVariants.{Noop, Cut, Add, Finalise, Trim}
-use Rattle.shard_registry.specs.Order.{Order, added, finalised}
-use Rattle.cut_chain.specs.Covering.{lengths_of}
-use Rattle.cut_chain.specs.Known.{Known, Chained, learned}
-use Rattle.cut_chain.specs.Kept.{known_from, IsKept}
+use Rattle.record_frame.specs.declared.values.Value.TheVariants.{Noop}
+use Rattle.cut_chain.specs.Known.{Chained}
 use Rattle.cut_chain.proofs.Keeping.{kept_on, known_noop, chain_from}
 use Rattle.cut_chain.proofs.applying.Chain.count_one.Goals as goal
 

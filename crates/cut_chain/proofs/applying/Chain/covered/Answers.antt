@@ -1,12 +1,5 @@
-use Rattle.std.proofs.Common.{◌≡◌, ℕ, ◌+◌, ◌<◌, ◌≤◌, max, min, List, [], length, refl, sym, ap, ◌∙◌, subst, arith}
-use Rattle.log_base.specs.ClusterShape.{Shape}
-use Rattle.log_base.specs.Shape.{shape}
-use Rattle.log_base.specs.declared.numbers.Place.{Place}
-use Rattle.record_frame.specs.declared.values.Value.TheVariants.{Noop, Cut, Add, Finalise, Trim}
-use Rattle.shard_registry.specs.Order.{Order, added, finalised}
-use Rattle.cut_chain.specs.Covering.{lengths_of}
-use Rattle.cut_chain.specs.Known.{Known, Chained, learned}
-use Rattle.cut_chain.specs.Kept.{known_from, IsKept}
+use Rattle.std.proofs.Common.{◌<◌, ap, ◌∙◌, arith}
+use Rattle.cut_chain.specs.Known.{Chained}
 use Rattle.log_model.specs.Chain.{covered_of}
 use Rattle.std.specs.Prelude.{slice_index}
 use Rattle.cut_chain.proofs.Keeping.{covered_is}

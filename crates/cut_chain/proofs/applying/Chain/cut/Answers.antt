@@ -1,10 +1,7 @@
-use Rattle.std.proofs.Common.{◌≡◌, ℕ, ◌+◌, ◌<◌, ◌≤◌, max, min, List, [], length, refl, sym, ap, ◌∙◌, subst, arith}
-use Rattle.log_base.specs.ClusterShape.{Shape}
+use Rattle.std.proofs.Common.{◌+◌, ap, ◌∙◌, arith}
 use Rattle.log_base.specs.Shape.{shape}
-use Rattle.log_base.specs.declared.numbers.Place.{Place}
-use Rattle.record_frame.specs.declared.values.Value.TheVariants.{Cut, Trim}
-use Rattle.cut_chain.specs.Known.{Known, Chained, learned}
-use Rattle.cut_chain.specs.Kept.{known_from, IsKept}
+use Rattle.record_frame.specs.declared.values.Value.TheVariants.{Cut}
+use Rattle.cut_chain.specs.Known.{Chained, learned}
 use Rattle.cut_chain.proofs.Keeping.{kept_on, known_cut, covered_from_kept, apart_from_kept}
 use Rattle.cut_chain.proofs.applying.Chain.cut.Goals as goal
 

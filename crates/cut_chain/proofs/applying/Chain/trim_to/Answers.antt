@@ -1,10 +1,8 @@
-use Rattle.std.proofs.Common.{◌≡◌, ℕ, ◌+◌, ◌<◌, ◌≤◌, max, min, List, [], length, refl, sym, ap, ◌∙◌, subst, arith}
-use Rattle.log_base.specs.ClusterShape.{Shape}
+use Rattle.std.proofs.Common.{◌≡◌, ℕ, ◌+◌, max, min, sym, ap, ◌∙◌, subst, arith}
 use Rattle.log_base.specs.Shape.{shape}
-use Rattle.log_base.specs.declared.numbers.Place.{Place}
-use Rattle.record_frame.specs.declared.values.Value.TheVariants.{Cut, Trim}
-use Rattle.cut_chain.specs.Known.{Known, Chained, learned}
-use Rattle.cut_chain.specs.Kept.{known_from, IsKept}
+use Rattle.record_frame.specs.declared.values.Value.TheVariants.{Trim}
+use Rattle.cut_chain.specs.Known.{Chained}
+use Rattle.cut_chain.specs.Kept.{IsKept}
 use Rattle.cut_chain.proofs.Keeping.{kept_on, known_trim}
 use Rattle.cut_chain.proofs.applying.Chain.trim_to.Goals as goal
 

@@ -1,5 +1,6 @@
-use Rattle.cut_chain.proofs.Walks.{walk-empty}
+use Rattle.std.proofs.Common.{refl}
+use Rattle.cut_chain.proofs.Newest.{counted-empty}
 use Rattle.cut_chain.proofs.walking.WalkPlacesPlaces.clear.Goals as goal
 
 pub invariant_of-self : goal.invariant_of-self
-invariant_of-self c = walk-empty _ c.clear.ensures.items
+invariant_of-self c = counted-empty _ 0 c.clear.ensures.items refl
