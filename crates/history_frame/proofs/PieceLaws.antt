@@ -1,5 +1,5 @@
 -- What the body of a frame stands for, from what was read of it.
-use Rattle.std.proofs.Common.{◌≡◌, ℕ, ◌+◌, ◌<◌, ◌≤◌, List, ◌∷◌, length, ◌++◌, Result, Ok, Err, refl, sym, ap, subst, ◌∙◌, length-append, arith}
+use Rattle.std.proofs.Common.{◌≡◌, ℕ, ◌+◌, ◌<◌, ◌≤◌, List, ◌∷◌, length, ◌++◌, Result, Ok, Err, MatchResult, refl, sym, ap, subst, ◌∙◌, length-append, arith}
 use Rattle.log_base.specs.ClusterShape.{Shape}
 use Rattle.log_base.specs.Shape.{shape}
 use Rattle.log_base.specs.Wide.{IsBytes, be2}
@@ -17,7 +17,7 @@ use Rattle.history_frame.specs.declared.pieces.Piece.{Piece}
 use Rattle.history_frame.specs.declared.pieces.Piece.TheVariants.{Reply as AReply, Head, Kept as AKept, Event as AnEvent, End}
 use Rattle.history_frame.specs.declared.stages.Stage.{Stage}
 use Rattle.history_frame.specs.declared.stages.Stage.TheVariants.{Before, Keeping, Running}
-use Rattle.history_frame.specs.Frames.{IsReplyBody, IsHeadBody, IsKeptBody, IsEventBody, Means, IsNone, Finds}
+use Rattle.history_frame.specs.Frames.{IsReplyBody, IsHeadBody, IsKeptBody, IsEventBody, IsEventRead, IsInside, Means, IsNone, Finds, placed}
 use Rattle.history_frame.specs.Spelling.{happened_spelling}
 use Rattle.history_frame.specs.ReplyReading.{Told, told}
 use Rattle.history_frame.specs.Reading.{ToldHappened, happened_told, lane_reply_of, head_of, kept_of, event_of}
@@ -39,10 +39,10 @@ finds_none Is read (BadNumber at) told reads = λ x is. let r = reads x is in re
 finds_none Is read (Long extra) told reads = λ x is. let r = reads x is in refused read (Long extra) r.0 told r.1
 finds_none Is read Memory told reads = tt
 
--- an answer that is a refusal of reading
-pub finds_err : {A : Type 0} (Is : Piece → Type 0) (read : Result A Refusal) (answer : Result Piece Refusal) (refusal : Refusal) → answer ≡ Err refusal → Refuses refusal read
-    → ((x : Piece) → Is x → (a : A) × (read ≡ Ok a)) → Finds Is answer
-finds_err Is read answer refusal e told reads = subst (Finds Is) (sym e) (finds_none Is read refusal told reads)
+-- an answer that is a refusal of reading, whatever is in the place
+pub finds_err : {A B : Type 0} (Is : Piece → Type 0) (read : Result A Refusal) (answer : Result B Refusal) (place : Piece) (refusal : Refusal) → answer ≡ Err refusal → Refuses refusal read
+    → ((x : Piece) → Is x → (a : A) × (read ≡ Ok a)) → Finds Is (placed answer place)
+finds_err {B} Is read answer place refusal e told reads = subst (λ (r : Result B Refusal). Finds Is (placed r place)) (sym e) (finds_none Is read refusal told reads)
 
 -- ---- replies
 
@@ -127,6 +127,19 @@ event_reads stage events body (AnEvent event) means =
     let right : IsRight event.happened = record { input = is.is.input; few = is.is.few; outputs = is.is.outputs; reply = is.is.reply } in
     ((event.node, happened_told event.happened), ap event_of is.text ∙ event_again event.node event.happened is.fits.node right is.fits.happened is.untold)
 event_reads stage events body End means = absurd means
+
+-- the event that was put into a place, or none
+pub event_finds : {B : Type 0} (stage : Stage) (events : ℕ) (body : List ℕ) (answer : Result B Refusal) (piece : Piece) → IsInside stage → IsBytes body → length body ≤ 2097151
+    → MatchResult answer (λ _. IsEventRead events (event_of body) piece) (λ refusal. Refuses refusal (event_of body)) → Finds (Means stage events 98 body) (placed answer piece)
+event_finds stage events body (Ok done) (AnEvent event) inside fits small read =
+    let found = event_found events body event.node event.happened fits small read.1 in
+    (inside, refl, subst (λ (p : ℕ). IsEventBody events body (record { place = p; node = event.node; happened = event.happened })) (sym read.0) found)
+event_finds stage events body (Ok done) AReply inside fits small read = absurd read
+event_finds stage events body (Ok done) (Head config run) inside fits small read = absurd read
+event_finds stage events body (Ok done) (AKept kept) inside fits small read = absurd read
+event_finds stage events body (Ok done) End inside fits small read = absurd read
+event_finds stage events body (Err refusal) piece inside fits small read =
+    finds_none (Means stage events 98 body) (event_of body) refusal read (event_reads stage events body)
 
 -- ---- kinds that may not stand there
 

@@ -10,7 +10,7 @@ use Rattle.history_frame.specs.declared.pieces.Piece.{Piece}
 use Rattle.history_frame.specs.declared.pieces.Piece.TheVariants.{Reply as AReply, Head, Kept as AKept, Event as AnEvent, End}
 use Rattle.history_frame.specs.declared.stages.Stage.{Stage}
 use Rattle.history_frame.specs.declared.stages.Stage.TheVariants.{Before, Keeping, Running}
-use Rattle.history_frame.specs.Frames.{IsInside, Means, Spells}
+use Rattle.history_frame.specs.Frames.{IsInside, Means, Spells, placed}
 use Rattle.history_frame.specs.Reader.{HistoryReading, FitsFrame, NoPiece, FrameRead, FindsFrame, Gave, Refused, Ended, Fails, Answers, counted, passed_limit, stage_after}
 
 -- ---- a piece fits its frame
@@ -35,16 +35,16 @@ fails : (old new : HistoryReading) (pending : List ℕ) (taken : ℕ) (fault : I
 fails old new pending taken fault e =
     subst (λ (x : HistoryReading). x ≡ record old { pending = x.pending; taken = x.taken; fault = Some fault }) (sym e) refl
 
-module _ (old new : HistoryReading) (pending : List ℕ) (taken : ℕ) (before left : Option (List ℕ)) (piece : Piece) (size : ℕ) (result : Result Piece ItemFault)
+module _ (old new : HistoryReading) (pending : List ℕ) (taken : ℕ) (before left : Option (List ℕ)) (piece : Piece) (size : ℕ) (answer : Result (Unit {0}) ItemFault)
     (read : FrameRead old.stage old.counts.events before (unread pending left) piece size)
-    (given : passed_limit (counted old.counts piece) ≡ None → (result ≡ Ok piece) × (new ≡ record old {
+    (given : passed_limit (counted old.counts piece) ≡ None → (answer ≡ Ok tt) × (new ≡ record old {
       pending = pending;
       taken = taken;
       stage = stage_after old.stage piece;
       counts = counted old.counts piece;
       offset = min (old.offset + size) (2 ^ 64 - 1);
     }))
-    (refused : (cause : ℕ) → passed_limit (counted old.counts piece) ≡ Some cause → (result ≡ Err (Many cause)) × (new ≡ record old { pending = pending; taken = taken; fault = Some (Many cause) })) where
+    (refused : (cause : ℕ) → passed_limit (counted old.counts piece) ≡ Some cause → (answer ≡ Err (Many cause)) × (new ≡ record old { pending = pending; taken = taken; fault = Some (Many cause) })) where
   pub give_holds : pending ≡ new.pending
   give_holds = by_limit (passed_limit (counted old.counts piece)) refl
     where
@@ -61,18 +61,21 @@ module _ (old new : HistoryReading) (pending : List ℕ) (taken : ℕ) (before l
       let sized = e ∙ ap (λ (n : ℕ). record old { pending = pending; taken = taken; stage = stage_after old.stage piece; counts = counted old.counts piece; offset = min (old.offset + n) (2 ^ 64 - 1) }) read.size_is in
       subst (λ (x : HistoryReading). x ≡ record old { pending = x.pending; taken = x.taken; stage = stage_after old.stage piece; counts = counted old.counts piece; offset = min (old.offset + length read.text) (2 ^ 64 - 1) }) (sym sized) refl
 
-  pub give_answers : Answers old new before (unread new.pending left) result
+  abbrev told : Result (Unit {0}) ItemFault → Type 0
+  told r = Answers old new before (unread new.pending left) (placed r piece)
+
+  pub give_answers : Answers old new before (unread new.pending left) (placed answer piece)
   give_answers = by_limit (passed_limit (counted old.counts piece)) refl
     where
-      by_limit : (limit : Option ℕ) → passed_limit (counted old.counts piece) ≡ limit → Answers old new before (unread new.pending left) result
+      by_limit : (limit : Option ℕ) → passed_limit (counted old.counts piece) ≡ limit → Answers old new before (unread new.pending left) (placed answer piece)
       by_limit None e =
           let g = given e in
           let gave : Gave old new before (unread new.pending left) piece = record { text = read.text; spells = read.spells; consumed = consumed; within = e; moved = moved g.1 } in
-          subst (Answers old new before (unread new.pending left)) (sym g.0) (inl gave)
+          subst told (sym g.0) (inl gave)
       by_limit (Some cause) e =
           let r = refused cause e in
           let was : Refused old before (unread new.pending left) cause = record { piece = piece; text = read.text; spells = read.spells; consumed = consumed; passed = e } in
-          subst (Answers old new before (unread new.pending left)) (sym r.0) (was, fails old new pending taken (Many cause) r.1)
+          subst told (sym r.0) (was, fails old new pending taken (Many cause) r.1)
 
   pub give_passes : ReadsOn before (unread new.pending left)
   give_passes = (read.text, consumed)
@@ -116,13 +119,13 @@ end_answers old new pending taken before left result found outside inside = by_s
     by_stage (Keeping least) e = is_inside (subst IsInside (sym e) tt)
     by_stage Running e = is_inside (subst IsInside (sym e) tt)
 
-pub err_answers : (old new : HistoryReading) (pending : List ℕ) (taken : ℕ) (before left : Option (List ℕ)) (fault : ItemFault) (result : Result Piece ItemFault)
-    → FindsFrame old.stage old.counts.events before (unread pending left) (Err fault) → ((at : ℕ) → fault ≡ Bad at → at ≡ old.offset)
-    → result ≡ Err fault → new ≡ record old { pending = pending; taken = taken; fault = Some fault } → Answers old new before (unread new.pending left) result
-err_answers old new pending taken before left (Bad at) result found place is e =
-    subst (Answers old new before (unread new.pending left)) (sym is) (found.0, inr found.1, place at refl, fails old new pending taken (Bad at) e)
-err_answers old new pending taken before left (Read at) result found place is e =
-    subst (Answers old new before (unread new.pending left)) (sym is) (fails old new pending taken (Read at) e)
-err_answers old new pending taken before left (Many cause) result found place is e = absurd found
-err_answers old new pending taken before left Memory result found place is e =
-    subst (Answers old new before (unread new.pending left)) (sym is) (fails old new pending taken Memory e)
+pub err_answers : (old new : HistoryReading) (pending : List ℕ) (taken : ℕ) (before left : Option (List ℕ)) (piece : Piece) (fault : ItemFault) (answer : Result (Unit {0}) ItemFault)
+    → FindsFrame old.stage old.counts.events before (unread pending left) piece (Err fault) → ((at : ℕ) → fault ≡ Bad at → at ≡ old.offset)
+    → answer ≡ Err fault → new ≡ record old { pending = pending; taken = taken; fault = Some fault } → Answers old new before (unread new.pending left) (placed answer piece)
+err_answers old new pending taken before left piece (Bad at) answer found place is e =
+    subst (λ (r : Result (Unit {0}) ItemFault). Answers old new before (unread new.pending left) (placed r piece)) (sym is) (found.0, inr found.1, place at refl, fails old new pending taken (Bad at) e)
+err_answers old new pending taken before left piece (Read at) answer found place is e =
+    subst (λ (r : Result (Unit {0}) ItemFault). Answers old new before (unread new.pending left) (placed r piece)) (sym is) (fails old new pending taken (Read at) e)
+err_answers old new pending taken before left piece (Many cause) answer found place is e = absurd found
+err_answers old new pending taken before left piece Memory answer found place is e =
+    subst (λ (r : Result (Unit {0}) ItemFault). Answers old new before (unread new.pending left) (placed r piece)) (sym is) (fails old new pending taken Memory e)

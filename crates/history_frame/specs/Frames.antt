@@ -2,6 +2,7 @@
 use Rattle.std.specs.Prelude.{◌≡◌, ℕ, ◌+◌, ◌<◌, ◌≤◌, List, ◌∷◌, length, None, Result, Ok, Err, ⊤}
 use Rattle.log_base.specs.Shape.{shape}
 use Rattle.log_base.specs.declared.cluster_shape.Config.{Config}
+use Rattle.log_base.specs.declared.numbers.NodeId.{NodeId}
 use Rattle.record_frame.specs.declared.refusals.Refusal.{Refusal}
 use Rattle.record_frame.specs.declared.refusals.Refusal.TheVariants.{Short, TooLong, BadKind, BadNumber, Long, Memory}
 use Rattle.reply_frame.specs.Frames.{frame}
@@ -16,6 +17,7 @@ use Rattle.history_frame.specs.declared.pieces.Piece.TheVariants.{Reply as ARepl
 use Rattle.history_frame.specs.declared.stages.Stage.{Stage}
 use Rattle.history_frame.specs.declared.stages.Stage.TheVariants.{Before, Keeping, Running}
 use Rattle.history_frame.specs.Spelling.{IsHappened, head_body, kept_body, event_body}
+use Rattle.history_frame.specs.Reading.{ToldHappened, happened_told}
 use Rattle.history_frame.specs.Widths.{ReplyFits, EventFits, KeptFits}
 
 -- ---- what a frame's body spells
@@ -89,6 +91,19 @@ pub record Spells (stage : Stage) (events : ℕ) (piece : Piece) (text : List �
   pub text_is : text ≡ frame kind body
 
 -- ---- what reading finds
+
+-- an answer, with what was put into the place that was lent for it
+abbrev pub placed : {A B E : Type 0} → Result A E → B → Result B E
+placed (Ok done) x = Ok x
+placed (Err e) x = Err e
+
+-- the event at this place that reading gives
+abbrev pub IsEventRead : ℕ → Result (NodeId × ToldHappened) Refusal → Piece → Type 0
+IsEventRead place read AReply = ⊥
+IsEventRead place read (Head config run) = ⊥
+IsEventRead place read (AKept kept) = ⊥
+IsEventRead place read (AnEvent event) = (event.place ≡ place) × (read ≡ Ok (event.node, happened_told event.happened))
+IsEventRead place read End = ⊥
 
 -- nothing is found
 abbrev pub IsNone : {A : Type 0} → (A → Type 0) → Type 0

@@ -105,15 +105,15 @@ pub record FrameRead (stage : Stage) (events : ℕ) (before after : Option (List
   pub consumed : Consumes before after text
   pub size_is : size ≡ length text
 
--- A frame's reading found one, or the source is at its end, or the bytes that are there begin with none. Only a fault of the
--- source or want of memory may come at any bytes.
-abbrev pub FindsFrame : Stage → ℕ → Option (List ℕ) → Option (List ℕ) → Result (Option (Piece × ℕ)) ItemFault → Type 0
-FindsFrame stage events before after (Ok (Some found)) = FrameRead stage events before after found.0 found.1
-FindsFrame stage events before after (Ok None) = Consumes before after [] × IsAtEnd after
-FindsFrame stage events before after (Err (Bad at)) = NoPiece stage events before × HasBytes before
-FindsFrame stage events before after (Err (Read at)) = ⊤
-FindsFrame stage events before after (Err (Many cause)) = ⊥
-FindsFrame stage events before after (Err Memory) = ⊤
+-- A frame's reading found one, of so many bytes, or the source is at its end, or the bytes that are there begin with none.
+-- Only a fault of the source or want of memory may come at any bytes.
+abbrev pub FindsFrame : Stage → ℕ → Option (List ℕ) → Option (List ℕ) → Piece → Result (Option ℕ) ItemFault → Type 0
+FindsFrame stage events before after piece (Ok (Some size)) = FrameRead stage events before after piece size
+FindsFrame stage events before after piece (Ok None) = Consumes before after [] × IsAtEnd after
+FindsFrame stage events before after piece (Err (Bad at)) = NoPiece stage events before × HasBytes before
+FindsFrame stage events before after piece (Err (Read at)) = ⊤
+FindsFrame stage events before after piece (Err (Many cause)) = ⊥
+FindsFrame stage events before after piece (Err Memory) = ⊤
 
 -- A piece is given: its spelling, which may stand there, was read, and no limit is passed. The reader moves past it.
 pub record Gave (old new : HistoryReading) (before after : Option (List ℕ)) (piece : Piece) : Type 0 where

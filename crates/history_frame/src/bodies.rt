@@ -1,15 +1,17 @@
 //! Reading the bodies of frames, which are taken to their ends.
 
-ghost use Rattle.std.specs.Prelude.{◌≡◌, ℕ, ◌+◌, ◌≤◌, length, IfOk};
+ghost use Rattle.std.specs.Prelude.{◌≡◌, ℕ, ◌+◌, ◌≤◌, length, IfOk, MatchResult};
 ghost use Rattle.log_base.specs.Shape.{shape};
-ghost use Rattle.record_frame.specs.Fields.{Gives};
+ghost use Rattle.record_frame.specs.Fields.{Gives, Refuses};
+ghost use Rattle.history_frame.specs.Frames.{IsEventRead};
 ghost use Rattle.history_frame.specs.ReplyReading.{told};
-ghost use Rattle.history_frame.specs.Reading.{happened_told, lane_reply_at, lane_reply_of, config_at, run_at, head_at, head_of, kept_of, node_happened_at, event_of};
+ghost use Rattle.history_frame.specs.Reading.{lane_reply_at, lane_reply_of, config_at, run_at, head_at, head_of, kept_of, event_of};
 
-use crate::events::{Happened, Kept};
-use crate::reading::read_happened;
+use crate::events::{Event, Happened, Kept};
+use crate::pieces::Piece;
+use crate::reading::{read_input, read_mark, read_outputs};
 use crate::reply_reading::read_reply;
-use log_base::{Bytes, Config, NodeId};
+use log_base::{Bytes, Config, List, NodeId};
 use record_frame::{Refusal, read_u8, read_u16, read_u32};
 use reply_frame::Reply;
 use std::alloc::Global;
@@ -110,27 +112,32 @@ pub fn read_kept(alloc: Global, body: &[u8]) -> Result<Kept, Refusal>
     })
 }
 
-/// Reads a node, and what happened there.
-#[tactic(auto, unfolding(crate::specs::Reading::node_happened_at))]
-fn node_happened_from(alloc: Global, body: &[u8]) -> Result<((NodeId, Happened), usize), Refusal>
-    ensures read { Gives (λ x. ((x.0.0, happened_told x.0.1), x.1)) result (node_happened_at body.now 0) }
-    ensures within { IfOk result (λ x. x.1 ≤ length body.now) }
+/// Reads the event at a place that a body spells: its node, and what happened there.
+#[tactic(auto, unfolding(crate::specs::Reading::event_of, crate::specs::Reading::node_happened_at, crate::specs::Reading::happened_at))]
+pub fn read_event(alloc: Global, place: u32, body: &[u8], piece: &mut Piece) -> Result<(), Refusal>
+    ensures { MatchResult result (λ _. IsEventRead place (event_of body.now) piece.new) (λ refusal. Refuses refusal (event_of body.now)) }
 {
     let (node, next) = read_u16(body, 0)?;
-    let (happened, next) = read_happened(alloc, body, next)?;
-    Ok(((NodeId(node), happened), next))
-}
-
-/// The node that a body spells, and what happened there.
-#[tactic(auto, unfolding(crate::specs::Reading::event_of))]
-pub fn read_node_happened(alloc: Global, body: &[u8]) -> Result<(NodeId, Happened), Refusal>
-    ensures { Gives (λ x. (x.0, happened_told x.1)) result (event_of body.now) }
-{
-    let (found, next) = node_happened_from(alloc, body)?;
+    let (input, next) = read_input(alloc, body, next)?;
+    let (mark, next) = read_mark(body, next)?;
+    let (count, next) = read_u8(body, next)?;
+    let (outputs, next) = read_outputs(alloc, body, next, count)?;
+    let (reply, next) = read_reply(alloc, body, next)?;
     if next < body.len() {
         return Err(Refusal::Long {
             extra: body.len() - next,
         });
     }
-    Ok(found)
+    let happened = Happened {
+        input,
+        mark,
+        outputs: List::of(outputs),
+        reply,
+    };
+    *piece = Piece::Event(Event {
+        place,
+        node: NodeId(node),
+        happened,
+    });
+    Ok(())
 }

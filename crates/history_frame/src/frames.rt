@@ -15,8 +15,8 @@ use std::alloc::Global;
 /// How long a frame may be behind its length.
 const LONGEST: u32 = 2_097_152;
 
-/// The piece of the next frame, which begins at a place, and how many bytes its frame has, or none where the source is
-/// at its end.
+/// Reads the piece of the next frame, which begins at a place, and answers how many bytes its frame has, or none where the
+/// source is at its end.
 pub fn read_framed<S: Source>(
     alloc: Global,
     stage: Stage,
@@ -24,8 +24,9 @@ pub fn read_framed<S: Source>(
     place: u64,
     pieces: &mut PieceReader,
     source: &mut S,
-) -> Result<Option<(Piece, u32)>, ItemFault>
-    ensures finds { FindsFrame stage events (unread pieces.old.pending (S.left source.old)) (unread pieces.new.pending (S.left source.new)) result }
+    piece: &mut Piece,
+) -> Result<Option<u32>, ItemFault>
+    ensures finds { FindsFrame stage events (unread pieces.old.pending (S.left source.old)) (unread pieces.new.pending (S.left source.new)) piece.new result }
     ensures passes { ReadsOn (unread pieces.old.pending (S.left source.old)) (unread pieces.new.pending (S.left source.new)) }
     ensures taken { TakesOn pieces.old.taken pieces.new.taken (S.left source.old) (S.left source.new) }
     ensures bad { (at : ℕ) → result ≡ Err (ItemFault.Bad at) → at ≡ place }
@@ -48,8 +49,8 @@ pub fn read_framed<S: Source>(
         return Err(ItemFault::Bad { at: place });
     }
     let (kind, body) = frame.split_at(1);
-    match find_piece(alloc, stage, events, kind[0], body) {
-        Ok(Some(piece)) => Ok(Some((piece, length + 4))),
+    match find_piece(alloc, stage, events, kind[0], body, piece) {
+        Ok(Some(())) => Ok(Some(length + 4)),
         Ok(None) => Err(ItemFault::Bad { at: place }),
         Err(Memory) => Err(ItemFault::Memory),
     }

@@ -1,9 +1,9 @@
 //! The reader of a history.
 
-ghost use Rattle.std.specs.Prelude.{◌≡◌, ℕ, ◌+◌, ◌≤◌, ◌^◌, ◌-◌, min, [], length, Some, None, IfSome};
+ghost use Rattle.std.specs.Prelude.{◌≡◌, ℕ, ◌+◌, ◌≤◌, ◌^◌, ◌-◌, min, [], length, Some, None, Ok, IfSome};
 ghost use Rattle.log_base.specs.Outside.{Rose, unread, ReadsOn, TakesOn};
 ghost use Rattle.history_frame.specs.declared.stages.Stage.TheVariants.{Before};
-ghost use Rattle.history_frame.specs.Frames.{IsInside};
+ghost use Rattle.history_frame.specs.Frames.{IsInside, placed};
 ghost use Rattle.history_frame.specs.Reader.{Answers, FitsFrame, counted, events_in, event_bytes_in, kept_bytes_in, nothing_yet, passed_limit, stage_after};
 
 use crate::frames::read_framed;
@@ -80,6 +80,24 @@ impl HistoryReader {
         ensures again { IfSome self.old.fault (λ fault. (result ≡ Err fault) × (self.new ≡ self.old) × (source.new ≡ source.old)) }
         ensures later { S.faults source.old ≤ S.faults source.new }
     {
+        let mut piece = Piece::End;
+        self.next_into(source, &mut piece)?;
+        Ok(piece)
+    }
+
+    /// The same, with the piece in place of the one that a place had. After a fault the place has some piece.
+    pub fn next_into<S: Source>(
+        &mut self,
+        source: &mut S,
+        piece: &mut Piece,
+    ) -> Result<(), ItemFault>
+        ensures answers { self.old.fault ≡ None → Answers self.old self.new (unread self.old.pending (S.left source.old)) (unread self.new.pending (S.left source.new)) (placed result piece.new) }
+        ensures passes { self.old.fault ≡ None → ReadsOn (unread self.old.pending (S.left source.old)) (unread self.new.pending (S.left source.new)) }
+        ensures taken { self.old.fault ≡ None → TakesOn self.old.taken self.new.taken (S.left source.old) (S.left source.new) }
+        ensures read { self.old.fault ≡ None → (at : ℕ) → result ≡ Err (ItemFault.Read at) → Rose (S.faults source.old) (S.faults source.new) × (at ≡ self.new.taken) }
+        ensures again { IfSome self.old.fault (λ fault. (result ≡ Err fault) × (self.new ≡ self.old) × (source.new ≡ source.old)) }
+        ensures later { S.faults source.old ≤ S.faults source.new }
+    {
         if let Some(fault) = self.fault {
             return Err(fault);
         }
@@ -90,28 +108,29 @@ impl HistoryReader {
             self.offset,
             &mut self.pieces,
             source,
+            piece,
         ) {
-            Ok(Some((piece, size))) => self.give(piece, size),
-            Ok(None) => self.end(),
+            Ok(Some(size)) => self.give(piece, size),
+            Ok(None) => self.end(piece),
             Err(fault) => self.fail(fault),
         }
     }
 
-    /// Answers a piece, whose frame has this size, where it passes no limit.
-    fn give(&mut self, piece: Piece, size: u32) -> Result<Piece, ItemFault>
-        requires { FitsFrame piece }
-        ensures given { passed_limit (counted self.old.counts piece) ≡ None → (result ≡ Ok piece) × (self.new ≡ record self.old {
-          stage = stage_after self.old.stage piece;
-          counts = counted self.old.counts piece;
+    /// Gives a piece, whose frame has this size, where it passes no limit.
+    fn give(&mut self, piece: &Piece, size: u32) -> Result<(), ItemFault>
+        requires { FitsFrame piece.now }
+        ensures given { passed_limit (counted self.old.counts piece.now) ≡ None → (result ≡ Ok tt) × (self.new ≡ record self.old {
+          stage = stage_after self.old.stage piece.now;
+          counts = counted self.old.counts piece.now;
           offset = min (self.old.offset + size) (2 ^ 64 - 1);
         }) }
-        ensures refused { (cause : ℕ) → passed_limit (counted self.old.counts piece) ≡ Some cause → (result ≡ Err (ItemFault.Many cause)) × (self.new ≡ record self.old { fault = Some (ItemFault.Many cause) }) }
+        ensures refused { (cause : ℕ) → passed_limit (counted self.old.counts piece.now) ≡ Some cause → (result ≡ Err (ItemFault.Many cause)) × (self.new ≡ record self.old { fault = Some (ItemFault.Many cause) }) }
     {
-        match self.limit_passed(&piece) {
+        match self.limit_passed(piece) {
             Some(cause) => self.fail(ItemFault::Many { cause }),
             None => {
-                self.count(&piece, size);
-                Ok(piece)
+                self.count(piece, size);
+                Ok(())
             }
         }
     }
@@ -150,19 +169,22 @@ impl HistoryReader {
         self.stage = after(self.stage, piece);
     }
 
-    /// Answers at the end of the source, which is no place of a frame before the head.
-    fn end(&mut self) -> Result<Piece, ItemFault>
-        ensures before { self.old.stage ≡ Before → (result ≡ Err (ItemFault.Bad self.old.offset)) × (self.new ≡ record self.old { fault = Some (ItemFault.Bad self.old.offset) }) }
-        ensures inside { IsInside self.old.stage → (result ≡ Ok Piece.End) × (self.new ≡ self.old) }
+    /// Gives the end at the end of the source, which is no place of a frame before the head.
+    fn end(&mut self, piece: &mut Piece) -> Result<(), ItemFault>
+        ensures before { self.old.stage ≡ Before → (placed result piece.new ≡ Err (ItemFault.Bad self.old.offset)) × (self.new ≡ record self.old { fault = Some (ItemFault.Bad self.old.offset) }) }
+        ensures inside { IsInside self.old.stage → (placed result piece.new ≡ Ok Piece.End) × (self.new ≡ self.old) }
     {
         match self.stage {
             Stage::Before => self.fail(ItemFault::Bad { at: self.offset }),
-            Stage::Keeping { .. } | Stage::Running => Ok(Piece::End),
+            Stage::Keeping { .. } | Stage::Running => {
+                *piece = Piece::End;
+                Ok(())
+            }
         }
     }
 
     /// Keeps a fault and answers it.
-    fn fail(&mut self, fault: ItemFault) -> Result<Piece, ItemFault>
+    fn fail(&mut self, fault: ItemFault) -> Result<(), ItemFault>
         ensures answer { result ≡ Err fault }
         ensures kept { self.new ≡ record self.old { fault = Some fault } }
     {

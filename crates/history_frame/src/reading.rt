@@ -2,12 +2,12 @@
 
 ghost use Rattle.std.specs.Prelude.{◌≡◌, ℕ, ◌≤◌, length, IfOk};
 ghost use Rattle.record_frame.specs.Fields.{Gives};
-ghost use Rattle.history_frame.specs.Reading.{submit_at, ask_at, read_at, request_at, settled_at, call_fields_at, deliver_at, call_at, input_fields_at, input_at, mark_of, mark_at, sent_at, outputs_at, happened_told, happened_at};
+ghost use Rattle.history_frame.specs.Reading.{submit_at, ask_at, read_at, request_at, settled_at, call_fields_at, deliver_at, call_at, input_fields_at, input_at, mark_of, mark_at, sent_at, outputs_at};
 
-use crate::events::{Happened, Sent};
+use crate::events::Sent;
 use crate::inputs::{Call, Input, Mark};
-use crate::reply_reading::{read_bytes_end, read_plain_entry, read_reply};
-use log_base::{Client, List, NodeId, Number, Position};
+use crate::reply_reading::{read_bytes_end, read_plain_entry};
+use log_base::{Client, NodeId, Number, Position};
 use message_frame::decode;
 use record_frame::{Refusal, read_u8, read_u16, read_u32, read_u64, read_value_at};
 use std::alloc::Global;
@@ -165,7 +165,7 @@ fn read_input_fields(
 }
 
 #[tactic(auto, unfolding(crate::specs::Reading::input_at))]
-fn read_input(alloc: Global, bytes: &[u8], at: usize) -> Result<(Input, usize), Refusal>
+pub fn read_input(alloc: Global, bytes: &[u8], at: usize) -> Result<(Input, usize), Refusal>
     requires { at ≤ length bytes.now }
     ensures read { Gives (λ x. x) result (input_at bytes.now at) }
     ensures within { IfOk result (λ x. x.1 ≤ length bytes.now) }
@@ -190,7 +190,7 @@ fn mark_of_byte(byte: u8) -> Result<Mark, Refusal>
 }
 
 #[tactic(auto, unfolding(crate::specs::Reading::mark_at))]
-fn read_mark(bytes: &[u8], at: usize) -> Result<(Mark, usize), Refusal>
+pub fn read_mark(bytes: &[u8], at: usize) -> Result<(Mark, usize), Refusal>
     requires { at ≤ length bytes.now }
     ensures read { result ≡ mark_at bytes.now at }
     ensures within { IfOk result (λ x. x.1 ≤ length bytes.now) }
@@ -216,7 +216,7 @@ fn read_sent(alloc: Global, bytes: &[u8], at: usize) -> Result<(Sent, usize), Re
     Ok((sent, next))
 }
 
-fn read_outputs(
+pub fn read_outputs(
     alloc: Global,
     bytes: &[u8],
     at: usize,
@@ -234,25 +234,4 @@ fn read_outputs(
         place = next;
     }
     Ok((outputs, place))
-}
-
-/// Reads what happened.
-#[tactic(auto, unfolding(crate::specs::Reading::happened_at))]
-pub fn read_happened(alloc: Global, bytes: &[u8], at: usize) -> Result<(Happened, usize), Refusal>
-    requires { at ≤ length bytes.now }
-    ensures read { Gives (λ x. (happened_told x.0, x.1)) result (happened_at bytes.now at) }
-    ensures within { IfOk result (λ x. x.1 ≤ length bytes.now) }
-{
-    let (input, next) = read_input(alloc, bytes, at)?;
-    let (mark, next) = read_mark(bytes, next)?;
-    let (count, next) = read_u8(bytes, next)?;
-    let (outputs, next) = read_outputs(alloc, bytes, next, count)?;
-    let (reply, next) = read_reply(alloc, bytes, next)?;
-    let happened = Happened {
-        input,
-        mark,
-        outputs: List::of(outputs),
-        reply,
-    };
-    Ok((happened, next))
 }

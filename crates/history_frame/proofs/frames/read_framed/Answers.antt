@@ -62,8 +62,8 @@ returns-in-Ok-Some-clause-finds g c =
     let number : c.number_u32-length.result ≡ number4 c.in_ok-head.head.items 0 = c.number_u32-length.ensures ∙ ap (λ (l : List ℕ). number4 l 0) c.deref.ensures.value in
     let whole : length c.in_ok-frame.frame.items ≡ c.number_u32-length.result = omega (arith, c.in_ok-frame.ensures.count) in
     let found = rw c.in-Ok-Some.field-0-is at c.in-Ok-Some.ensures in
-    let means = split_off (λ kind body. Means c.args.stage c.args.events kind body c.in-Ok-Some.piece) c.in_ok-frame.frame.items _ _ _ c.deref-2.ensures.value c.split_at.ensures.front c.split_at.ensures.back found in
-    is_a_piece c.args.stage c.args.events _ _ _ _ _ c.in-Ok-Some.piece c.number_u32-length.result c.in_ok-head.ensures.bytes four c.in_ok-frame.ensures.bytes number whole (omega arith) (omega arith) c.in_ok-head.ensures.fits means
+    let means = split_off (λ kind body. Means c.args.stage c.args.events kind body c.find_piece.new.piece) c.in_ok-frame.frame.items _ _ _ c.deref-2.ensures.value c.split_at.ensures.front c.split_at.ensures.back found in
+    is_a_piece c.args.stage c.args.events _ _ _ _ _ c.find_piece.new.piece c.number_u32-length.result c.in_ok-head.ensures.bytes four c.in_ok-frame.ensures.bytes number whole (omega arith) (omega arith) c.in_ok-head.ensures.fits means
 
 pub returns-in-Ok-None-clause-finds : goal.returns-in-Ok-None-clause-finds
 returns-in-Ok-None-clause-finds g c =
