@@ -1,6 +1,6 @@
 //! Reading a frame from a source.
 
-ghost use Rattle.std.specs.Prelude.{◌≡◌, ℕ, ◌<◌, ◌≤◌, length, slice_index, IfOk, OnErr};
+ghost use Rattle.std.specs.Prelude.{◌≡◌, ℕ, ◌<◌, ◌≤◌, length, slice_index, OnOk, OnErr};
 ghost use Rattle.std.specs.Io.KnownBytes.{Consumes, IsAtEnd};
 ghost use Rattle.log_base.specs.Outside.{Rose, unread, ReadsOn, TakesOn};
 ghost use Rattle.history_frame.specs.Reader.{FindsFrame};
@@ -16,7 +16,7 @@ use std::alloc::Global;
 const LONGEST: u32 = 2_097_152;
 
 /// Reads the piece of the next frame, which begins at a place, and answers how many bytes its frame has, or none where the
-/// source is at its end.
+/// source is at its end. The parts of the frame are read into a buffer.
 pub fn read_framed<S: Source>(
     alloc: Global,
     stage: Stage,
@@ -24,6 +24,7 @@ pub fn read_framed<S: Source>(
     place: u64,
     pieces: &mut PieceReader,
     source: &mut S,
+    frame: &mut Vec<u8>,
     piece: &mut Piece,
 ) -> Result<Option<u32>, ItemFault>
     ensures finds { FindsFrame stage events (unread pieces.old.pending (S.left source.old)) (unread pieces.new.pending (S.left source.new)) piece.new result }
@@ -33,18 +34,18 @@ pub fn read_framed<S: Source>(
     ensures read { (at : ℕ) → result ≡ Err (ItemFault.Read at) → Rose (S.faults source.old) (S.faults source.new) × (at ≡ pieces.new.taken) }
     ensures later { S.faults source.old ≤ S.faults source.new }
 {
-    let head = take(alloc, pieces, source, 4)?;
-    if head.is_empty() {
+    take(pieces, source, 4, frame)?;
+    if frame.is_empty() {
         return Ok(None);
     }
-    if head.len() < 4 {
+    if frame.len() < 4 {
         return Err(ItemFault::Bad { at: place });
     }
-    let length = number_u32(&head, 0);
+    let length = number_u32(frame, 0);
     if length == 0 || length > LONGEST {
         return Err(ItemFault::Bad { at: place });
     }
-    let frame = take(alloc, pieces, source, length as usize)?;
+    take(pieces, source, length as usize, frame)?;
     if frame.len() < length as usize {
         return Err(ItemFault::Bad { at: place });
     }
@@ -56,17 +57,17 @@ pub fn read_framed<S: Source>(
     }
 }
 
-/// The next bytes, as many as are wanted, or all that are left where those are fewer.
+/// The next bytes, as many as are wanted, or all that are left where those are fewer, in place of those of a buffer.
 fn take<S: Source>(
-    alloc: Global,
     pieces: &mut PieceReader,
     source: &mut S,
     wanted: usize,
-) -> Result<Vec<u8>, ItemFault>
-    ensures bytes { IfOk result (λ bytes. Consumes (unread pieces.old.pending (S.left source.old)) (unread pieces.new.pending (S.left source.new)) bytes.items) }
-    ensures count { IfOk result (λ bytes. length bytes.items ≤ wanted) }
-    ensures short { IfOk result (λ bytes. length bytes.items < wanted → IsAtEnd (unread pieces.new.pending (S.left source.new))) }
-    ensures fits { IfOk result (λ bytes. (k : ℕ) → slice_index bytes.items k < 256) }
+    bytes: &mut Vec<u8>,
+) -> Result<(), ItemFault>
+    ensures bytes { OnOk result (Consumes (unread pieces.old.pending (S.left source.old)) (unread pieces.new.pending (S.left source.new)) bytes.new.items) }
+    ensures count { OnOk result (length bytes.new.items ≤ wanted) }
+    ensures short { OnOk result (length bytes.new.items < wanted → IsAtEnd (unread pieces.new.pending (S.left source.new))) }
+    ensures fits { OnOk result ((k : ℕ) → slice_index bytes.new.items k < 256) }
     ensures err { OnErr result (ReadsOn (unread pieces.old.pending (S.left source.old)) (unread pieces.new.pending (S.left source.new))) }
     ensures taken { TakesOn pieces.old.taken pieces.new.taken (S.left source.old) (S.left source.new) }
     ensures read { (at : ℕ) → result ≡ Err (ItemFault.Read at) → Rose (S.faults source.old) (S.faults source.new) × (at ≡ pieces.new.taken) }
@@ -74,8 +75,8 @@ fn take<S: Source>(
     ensures many { (cause : ℕ) → result ≡ Err (ItemFault.Many cause) → ⊥ }
     ensures later { S.faults source.old ≤ S.faults source.new }
 {
-    match pieces.take(alloc, source, wanted) {
-        Ok(bytes) => Ok(bytes),
+    match pieces.take_into(source, wanted, bytes) {
+        Ok(()) => Ok(()),
         Err(Stop::Read) => Err(ItemFault::Read { at: pieces.taken() }),
         Err(Stop::Memory) => Err(ItemFault::Memory),
     }

@@ -34,6 +34,8 @@ pub struct HistoryReader {
     kept_bytes: u32,
     offset: u64,
     fault: Option<ItemFault>,
+    /// Where the parts of a frame are read.
+    frame: Vec<u8>,
 }
 
 impl Model for HistoryReader {
@@ -68,6 +70,7 @@ impl HistoryReader {
             kept_bytes: 0,
             offset: 0,
             fault: None,
+            frame: Vec::new(alloc),
         }
     }
 
@@ -108,6 +111,7 @@ impl HistoryReader {
             self.offset,
             &mut self.pieces,
             source,
+            &mut self.frame,
             piece,
         ) {
             Ok(Some(size)) => self.give(piece, size),
