@@ -108,8 +108,8 @@ impl Walker {
         ensures taken { IfOk result (λ following. (kept : KeptLists) (events : Items Event) → MayTake self.old kept events node.0 happened.old.input
             → IsTaken self.old self.new kept events node.0 happened.old.input happened.old.mark happened.old.outputs happened.old.reply following) }
     {
-        // Buffers that an event left over are not kept: they would grow with the history.
-        self.out = Outbox::new(self.alloc);
+        // Spare buffers that an event left over would grow with the history: the outbox keeps a few.
+        self.out.reset();
         let mut made = nothing(self.alloc);
         step_at(
             &self.config,
