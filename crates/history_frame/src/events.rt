@@ -21,6 +21,14 @@ pub struct Happened {
     pub reply: Reply,
 }
 
+/// What a node did with an input: how it turned out on its disks, what was sent, and the reply.
+#[derive(Debug, Drop)]
+pub struct Effect {
+    pub mark: Mark,
+    pub outputs: List<Sent>,
+    pub reply: Reply,
+}
+
 /// An event: one node takes one input. Its place is its number among all events, from 0.
 #[derive(Debug, Drop)]
 pub struct Event {

@@ -22,7 +22,7 @@ mod reply_reading;
 mod stages;
 mod writing;
 
-pub use events::{Event, Happened, History, Kept, Sent};
+pub use events::{Effect, Event, Happened, History, Kept, Sent};
 pub use history_reader::HistoryReader;
 pub use inputs::{Call, Input, Mark};
 pub use laws::{event_sized, one_history, one_order};
