@@ -1,3 +1,4 @@
+pub mod Effects
 pub mod Frames
 pub mod Laws
 pub mod Merging

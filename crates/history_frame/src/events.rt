@@ -29,6 +29,23 @@ pub struct Effect {
     pub reply: Reply,
 }
 
+impl Effect {
+    ghost use Rattle.std.specs.Prelude.{◌≡◌};
+    ghost use Rattle.history_frame.specs.Effects.{happened};
+
+    /// What happened with the input that it was done with.
+    pub fn on(self, input: Input) -> Happened
+        ensures { result ≡ happened input self }
+    {
+        Happened {
+            input,
+            mark: self.mark,
+            outputs: self.outputs,
+            reply: self.reply,
+        }
+    }
+}
+
 /// An event: one node takes one input. Its place is its number among all events, from 0.
 #[derive(Debug, Drop)]
 pub struct Event {
