@@ -13,7 +13,7 @@ use Rattle.message_frame.specs.declared.messages.Message.{Message}
 use Rattle.message_frame.specs.declared.messages.Message.TheVariants.{Copy, CopyAck, Report, Least, Prepare, Promised, Lower, Accept, Accepted, Decide, Want}
 use Rattle.node_model.specs.GathererRow.{GathererNode, names, on_report, outcome}
 use Rattle.node_model.specs.Marks.{Stopped, Running, is_named, silent, to_call}
-use Rattle.gatherer_node.specs.Gatherer.{Gatherer, IsReady, letters_due, letters_made, sizes_of}
+use Rattle.gatherer_node.specs.Gatherer.{IsReady, letters_made, sizes_of}
 
 -- a gatherer that is down puts nothing out
 quiet_or : (node : GathererNode) (input : Input) (b : Bool) → letters_made (cond b (Some (silent node (to_call input Down))) None) ≡ []

@@ -1,5 +1,5 @@
 -- What a gatherer heard has a spelling, and so has the least of it.
-use Rattle.std.proofs.Common.{◌≡◌, ℕ, zero, suc, ◌+◌, ◌*◌, ◌%◌, Bool, true, false, cond, ◌==◌, List, [], ◌∷◌, Option, Some, None, take, drop, slice_set, slice_index_or, refl, sym, subst, ap, arith}
+use Rattle.std.proofs.Common.{◌≡◌, ℕ, zero, suc, ◌+◌, ◌*◌, ◌%◌, Bool, true, false, cond, ◌==◌, List, [], ◌∷◌, Option, Some, None, take, drop, slice_set, slice_index_or, subst, arith}
 use Rattle.std.proofs.lemmas.Option.{none-some, same_Some}
 use Rattle.std.specs.List.{AllByRecursion, Contains}
 use Rattle.aggregator.specs.Hearing.{Hearing, after_note, heard_after, least_in, least_of_all, least_with, lesser_of}

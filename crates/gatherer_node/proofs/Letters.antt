@@ -6,7 +6,7 @@ use Rattle.std.specs.List.{AllByRecursion}
 use Rattle.aggregator.specs.Hearing.{Hearing, least_in}
 use Rattle.event_letters.specs.Letters.{message_length, parcel}
 use Rattle.history_frame.specs.declared.events.Sent.{Sent}
-use Rattle.log_base.specs.ClusterShape.{InRange, Shape}
+use Rattle.log_base.specs.ClusterShape.{Shape}
 use Rattle.message_frame.specs.declared.messages.Message.{Message}
 use Rattle.message_frame.specs.Spelling.{IsMessage}
 use Rattle.message_frame.proofs.Sizes.{length-message_spelling}

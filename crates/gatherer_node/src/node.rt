@@ -6,6 +6,7 @@ ghost use Rattle.reply_frame.specs.declared.replies.Reply.{Nothing};
 ghost use Rattle.event_letters.specs.Letters.{parcel};
 ghost use Rattle.history_frame.specs.declared.inputs.Input.TheVariants.{Deliver, Tick};
 ghost use Rattle.history_frame.specs.declared.inputs.Mark.TheVariants.{Done};
+ghost use Rattle.history_frame.specs.Effects.{happened};
 ghost use Rattle.history_frame.specs.Spelling.{event_size};
 ghost use Rattle.log_base.specs.Shape.{shape};
 ghost use Rattle.message_frame.specs.declared.messages.Message.TheVariants.{Report};
@@ -21,7 +22,7 @@ use crate::activity::Activity;
 use crate::sending::{ready_leasts, send_leasts};
 use aggregator::Reports;
 use event_letters::EventLetters;
-use history_frame::{Happened, Input, Mark};
+use history_frame::{Effect, Happened, Input, Mark};
 use log_base::{Config, Memory, Outbox, Replica, Shard};
 use message_frame::Message;
 use record_frame::Lengths;
@@ -118,10 +119,24 @@ impl GathererNode {
         ensures few { length result.outputs ≤ 56 }
         ensures size { event_size result ≤ 2097152 }
     {
-        let mark = self.take(&input, out);
+        let effect = self.act(&input, out);
+        effect.on(input)
+    }
+
+    /// What the row of an input does. Its letters go to the end of the outbox. It takes no memory.
+    pub fn act(&mut self, input: &Input, out: &mut Outbox) -> Effect
+        requires fits { Fits self.old.config (GathererRole self.old.index) (Gathering self.old.node) input.now }
+        requires ready { IsReady self.old out.old.rooms input.now }
+        ensures same { self.new ≡ record self.old { node = self.new.node; letters = self.new.letters } }
+        ensures row { outcome self.old.config self.old.index self.old.node input.now result.mark
+            ≡ Some (record { node = self.new.node; outputs = result.outputs; reply = result.reply }) }
+        ensures letters { out.new.letters ≡ out.old.letters ++ map parcel result.outputs }
+        ensures few { length result.outputs ≤ 56 }
+        ensures size { event_size (happened input.now result) ≤ 2097152 }
+    {
+        let mark = self.take(input, out);
         let outputs = self.letters.take();
-        Happened {
-            input,
+        Effect {
             mark,
             outputs,
             reply: Reply::Nothing,

@@ -1,4 +1,4 @@
-use Rattle.std.proofs.Common.{◌≡◌, OnOk, ◌++◌, Some, ℕ, List, replicate, sym, subst, arith, rules}
+use Rattle.std.proofs.Common.{◌≡◌, OnOk, ◌++◌, Some, ℕ, List, sym, subst, arith, rules}
 use Rattle.event_letters.specs.Letters.{HasSpace}
 use Rattle.log_base.specs.Shape.{shape}
 use Rattle.gatherer_node.specs.Gatherer.{least_due}

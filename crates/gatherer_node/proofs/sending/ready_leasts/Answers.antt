@@ -1,4 +1,4 @@
-use Rattle.std.proofs.Common.{◌≡◌, ◌++◌, ◌∙◌, ℕ, List, sym, subst, ap, arith, rules}
+use Rattle.std.proofs.Common.{◌∙◌, ℕ, List, sym, subst, ap}
 use Rattle.event_letters.specs.Letters.{HasSpace}
 use Rattle.log_base.specs.Shape.{shape}
 use Rattle.node_model.specs.GathererRow.{leasts}

@@ -1,13 +1,11 @@
-use Rattle.std.proofs.Common.{◌≡◌, ◌-◌, ◌+◌, ◌++◌, ◌∷◌, [], ◌∙◌, ℕ, suc, List, map, replicate, sym, subst, ap, arith, rules}
+use Rattle.std.proofs.Common.{◌≡◌, ◌-◌, ◌+◌, ◌++◌, ◌∷◌, [], ◌∙◌, ℕ, List, map, replicate, sym, subst, ap, arith, rules}
 use Rattle.std.proofs.lemmas.List.{append_assoc}
 use Rattle.event_letters.specs.Letters.{HasSpace, message_length, parcel}
 use Rattle.event_letters.proofs.Spaces.{first_alone}
 use Rattle.history_frame.specs.declared.events.Sent.{Sent}
 use Rattle.log_base.specs.Shape.{shape}
-use Rattle.message_frame.specs.declared.messages.Message.{Message}
 use Rattle.node_model.specs.Messages.{least_message}
 use Rattle.node_model.specs.Nodes.{before_orderers, letter, to_nodes}
-use Rattle.gatherer_node.specs.Gatherer.{sizes_of}
 use Rattle.gatherer_node.proofs.Letters.{all_sent, none_left, parcels-append, sizes-to_orderers, one_size, to_nodes-next}
 use Rattle.gatherer_node.proofs.sending.send_least.Goals as goal
 

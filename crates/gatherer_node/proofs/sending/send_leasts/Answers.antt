@@ -1,11 +1,11 @@
-use Rattle.std.proofs.Common.{◌≡◌, ◌-◌, ◌+◌, ◌++◌, ◌∙◌, ℕ, List, map, sym, subst, ap, arith, rules}
+use Rattle.std.proofs.Common.{◌-◌, ◌+◌, ◌++◌, ◌∙◌, ℕ, List, map, sym, subst, ap, arith}
 use Rattle.std.proofs.lemmas.List.{append_assoc}
 use Rattle.event_letters.specs.Letters.{HasSpace, parcel}
 use Rattle.history_frame.specs.declared.events.Sent.{Sent}
 use Rattle.log_base.specs.Shape.{shape}
 use Rattle.node_model.specs.GathererRow.{leasts}
 use Rattle.gatherer_node.specs.Gatherer.{sizes_of, told_of}
-use Rattle.gatherer_node.proofs.Letters.{leasts-left, leasts-next, none_due, parcels-append, sizes-append}
+use Rattle.gatherer_node.proofs.Letters.{leasts-left, leasts-next, parcels-append, sizes-append}
 use Rattle.gatherer_node.proofs.sending.send_leasts.Goals as goal
 
 pub tell-requires-clause-space : goal.tell-requires-clause-space

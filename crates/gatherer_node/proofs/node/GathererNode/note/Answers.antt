@@ -1,4 +1,4 @@
-use Rattle.std.proofs.Common.{◌≡◌, rules, sym, subst}
+use Rattle.std.proofs.Common.{rules, sym, subst}
 use Rattle.log_base.specs.Shape.{shape}
 use Rattle.gatherer_node.specs.Gatherer.{IsOf}
 use Rattle.gatherer_node.proofs.Heard.{noted}

@@ -1,4 +1,4 @@
-use Rattle.std.proofs.Common.{◌≡◌, Option, None, rules}
+use Rattle.std.proofs.Common.{None, rules}
 use Rattle.log_base.specs.Shape.{shape}
 use Rattle.gatherer_node.proofs.Due.{ready_down, ready_running}
 use Rattle.gatherer_node.proofs.node.GathererNode.ready.Goals as goal

@@ -1,4 +1,4 @@
-use Rattle.std.proofs.Common.{◌≡◌, rules}
+use Rattle.std.proofs.Common.{rules}
 use Rattle.gatherer_node.proofs.node.GathererNode.take.Goals as goal
 
 pub returns-in-Deliver-default-default-Some-Report-clause-row : goal.returns-in-Deliver-default-default-Some-Report-clause-row

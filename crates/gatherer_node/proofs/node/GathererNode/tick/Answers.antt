@@ -1,4 +1,4 @@
-use Rattle.std.proofs.Common.{◌≡◌, ◌++◌, List, length, ap, sym, subst, arith, rules}
+use Rattle.std.proofs.Common.{◌≡◌, List, length, ap, sym, subst, arith, rules}
 use Rattle.std.specs.List.{AllByRecursion}
 use Rattle.history_frame.specs.declared.events.Sent.{Sent}
 use Rattle.gatherer_node.specs.Gatherer.{IsShort}
