@@ -7,6 +7,7 @@ ghost use Rattle.log_base.specs.Shape.{shape};
 ghost use Rattle.log_base.specs.Outside.{Rose};
 ghost use Rattle.cut_chain.specs.Runs.{to_position};
 ghost use Rattle.log_model.specs.Chain.{chain_of};
+ghost use Rattle.history_frame.specs.Effects.{happened};
 ghost use Rattle.history_frame.specs.Spelling.{event_size};
 ghost use Rattle.node_model.specs.Fits.{Fits};
 ghost use Rattle.node_model.specs.Machine.{posted};
@@ -27,7 +28,7 @@ use crate::node::rows::letters_of;
 use cut_chain::Places;
 use disk_base::Plan;
 use event_letters::EventLetters;
-use history_frame::{Happened, Input, Mark};
+use history_frame::{Effect, Happened, Input, Mark};
 use log_base::{Config, Memory, Outbox, Position};
 use message_frame::Vote;
 use paxos_acceptor::{Acceptor, BadList};
@@ -240,12 +241,33 @@ impl<J: Journal, P: Places> OrdererNode<J, P> {
         ensures turn { input ≢ Input.Restart → MarkFollows (J.turns self.old.journal)
             (put_at self.old.memory.config self.old.index (node_of J.state self.old) (node_of J.state self.old).mode input) result.mark }
     {
+        let effect = self.act(&input, out);
+        effect.on(input)
+    }
+
+    /// What the row of an input does. Its letters go to the end of the outbox. It takes no memory.
+    pub fn act(&mut self, input: &Input, out: &mut Outbox) -> Effect
+        requires fits { Fits self.old.memory.config (OrdererRole self.old.index) (OrderingState (node_of J.state self.old)) input.now }
+        requires ready { IsReady J.state self.old input.now out.old }
+        ensures row { outcome self.old.memory.config self.old.index (node_of J.state self.old) input.now result.mark
+            ≡ Some (record { node = node_of J.state self.new; outputs = result.outputs; reply = result.reply }) }
+        ensures config { self.new.memory.config ≡ self.old.memory.config }
+        ensures index { self.new.index ≡ self.old.index }
+        ensures letters { out.new.letters ≡ out.old.letters ++ map posted result.outputs }
+        ensures few { length result.outputs ≤ 255 }
+        ensures size { event_size (happened input.now result) ≤ 2097152 }
+        ensures later { J.faults self.old.journal ≤ J.faults self.new.journal }
+        ensures halted { result.mark ≡ Mark.Halted → Rose (J.faults self.old.journal) (J.faults self.new.journal) }
+        ensures keeps { J.keeps_synced self.new.journal ≡ J.keeps_synced self.old.journal }
+        ensures opened { input.now ≡ Input.Restart → option_map opening_mark (J.state self.old.journal).reloaded ≡ Some result.mark }
+        ensures turn { input.now ≢ Input.Restart → MarkFollows (J.turns self.old.journal)
+            (put_at self.old.memory.config self.old.index (node_of J.state self.old) (node_of J.state self.old).mode input.now) result.mark }
+    {
         let mut letters = mem::replace(&mut self.letters, EventLetters::new(self.alloc));
-        let turn = self.take(&input, &mut letters, out);
+        let turn = self.take(input, &mut letters, out);
         let outputs = letters.take();
         self.letters = letters;
-        Happened {
-            input,
+        Effect {
             mark: turn.mark,
             outputs,
             reply: turn.reply,
