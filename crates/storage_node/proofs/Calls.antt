@@ -29,7 +29,7 @@ use Rattle.shard_replica.specs.Replica.{Replicated, ReplicaState, own_entries, l
 use Rattle.shard_replica.proofs.Held.{list-of}
 use Rattle.storage_node.specs.declared.node.Mode.{Mode}
 use Rattle.storage_node.specs.declared.node.Mode.TheVariants.{Running}
-use Rattle.storage_node.specs.declared.turn.Turn.{Turn}
+use Rattle.history_frame.specs.declared.events.Effect.{Effect}
 use Rattle.storage_node.specs.Replies.{reply_so, reply_to_asked, reply_to_submitted}
 use Rattle.storage_node.specs.StorageState.{StorageState, lists_in, member_in, memory_of, mode_of}
 use Rattle.storage_node.specs.Turning.{IsSmall, TurnsOut}
@@ -77,7 +77,7 @@ pub own-list : (state : ReplicaState) → state.own < length state.segments → 
 own-list state within = list-of state.segments state.own within
 
 -- an ask
-pub turns-asked : (node : StorageState) (client : Client) (number : Number) (answer : Asked) (turn : Turn) → node.mode ≡ Running
+pub turns-asked : (node : StorageState) (client : Client) (number : Number) (answer : Asked) (turn : Effect) → node.mode ≡ Running
     → node.replica.state.own < length node.replica.state.segments
     → asked_so answer ≡ ask (member_in node) (own_entries node.replica.state) node.replica.state.known client.0 number.0
     → turn.mark ≡ Done → turn.outputs ≡ [] → turn.reply ≡ reply_to_asked answer → TurnsOut node (ACall (Ask client number)) turn node
@@ -91,7 +91,7 @@ turns-asked node client number answer turn running within is mark outputs reply 
     (counts-same node.replica.media node.replica.media refl)
 
 -- a read
-pub turns-looked : (node new : StorageState) (client : Client) (position : Position) (turn : Turn) → node.mode ≡ Running → new.mode ≡ Running
+pub turns-looked : (node new : StorageState) (client : Client) (position : Position) (turn : Effect) → node.mode ≡ Running → new.mode ≡ Running
     → new.replica ≡ node.replica → new.ticks ≡ node.ticks → turn.mark ≡ Done → turn.outputs ≡ []
     → turn.reply ≡ read_reply position.0 (read (member_in node) (lists_in node) node.replica.state.known position.0)
     → length (reply_bytes turn.reply) ≤ 65558 → TurnsOut node (ACall (Read client position)) turn new

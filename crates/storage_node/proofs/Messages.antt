@@ -11,7 +11,7 @@ use Rattle.record_frame.specs.declared.values.Value.{Value}
 use Rattle.shard_replica.specs.Replica.{ReplicaState, lists_of, member_of}
 use Rattle.storage_node.specs.declared.node.Mode.{Mode}
 use Rattle.storage_node.specs.declared.node.Mode.TheVariants.{Running}
-use Rattle.storage_node.specs.declared.turn.Turn.{Turn}
+use Rattle.history_frame.specs.declared.events.Effect.{Effect}
 use Rattle.storage_node.specs.StorageState.{StorageState, lists_in, member_in, memory_of, mode_of}
 use Rattle.storage_node.specs.Turning.{TurnsOut}
 use Rattle.storage_node.proofs.Counting.{counts-same}
@@ -19,7 +19,7 @@ use Rattle.storage_node.proofs.Rows.{as_node, turns-done}
 use Rattle.storage_node.proofs.Starting.{silent-small}
 
 -- a value is decided
-pub turns-decided : (old new : StorageState) (place index : ℕ) (slot : Slot) (value : Value) (turn : Turn) → old.mode ≡ Running → new.mode ≡ Running → new.ticks ≡ old.ticks
+pub turns-decided : (old new : StorageState) (place index : ℕ) (slot : Slot) (value : Value) (turn : Effect) → old.mode ≡ Running → new.mode ≡ Running → new.ticks ≡ old.ticks
     → new.replica.state ≡ record old.replica.state { known = known_after (member_in old) old.replica.state.known slot.0 value } → new.replica.media ≡ old.replica.media
     → turn.mark ≡ Done → turn.outputs ≡ [] → turn.reply ≡ Nothing → TurnsOut old (Deliver place index (Some (Decide slot value))) turn new
 unfolding on_decide

@@ -29,7 +29,7 @@ use Rattle.shard_replica.specs.Lists.{Medium, PutsAt, medium_at, no_segment, seg
 use Rattle.shard_replica.specs.Replica.{ReplicaState, own_entries, lists_of, member_of, with_put}
 use Rattle.storage_node.specs.declared.node.Mode.{Mode}
 use Rattle.storage_node.specs.declared.node.Mode.TheVariants.{Down, Running}
-use Rattle.storage_node.specs.declared.turn.Turn.{Turn}
+use Rattle.history_frame.specs.declared.events.Effect.{Effect}
 use Rattle.storage_node.specs.Opening.{RoseIn}
 use Rattle.storage_node.specs.Replies.{reply_to_submitted}
 use Rattle.storage_node.specs.StorageState.{IsAtRest, IsFew, IsOf, IsSound, IsStorage, StorageState, config_of, lists_in, member_in, memory_of, mode_of}
@@ -75,7 +75,7 @@ told-done node segment None new puts = tt
 told-done node segment (Some entry) new puts = put-told node segment entry false new puts
 
 -- a row that puts an entry, or none, is done
-pub put-done : (old new : StorageState) (input : Input) (change : StorageChange) (turn : Turn) (segment : ℕ) (put : Option Entry) → old.mode ≡ Running
+pub put-done : (old new : StorageState) (input : Input) (change : StorageChange) (turn : Effect) (segment : ℕ) (put : Option Entry) → old.mode ≡ Running
     → row (config_of old) (member_in old) (lists_in old) (memory_of old.replica.state old.ticks) input ≡ Some change
     → change.put ≡ put_into segment put → change.after ≡ memory_of old.replica.state old.ticks → segment < length old.replica.state.segments
     → new.replica.state ≡ with_put old.replica.state segment put false → new.mode ≡ Running → new.ticks ≡ old.ticks
@@ -99,7 +99,7 @@ put-done old new input change turn segment put running r puts after lt state run
     (counts-put put segment false old.replica.media new.replica.media media)
 
 -- a row that puts an entry halts
-pub put-halted : (old new : StorageState) (input : Input) (change : StorageChange) (turn : Turn) (segment : ℕ) (entry : Entry) → old.mode ≡ Running
+pub put-halted : (old new : StorageState) (input : Input) (change : StorageChange) (turn : Effect) (segment : ℕ) (entry : Entry) → old.mode ≡ Running
     → row (config_of old) (member_in old) (lists_in old) (memory_of old.replica.state old.ticks) input ≡ Some change
     → change.put ≡ put_into segment (Some entry) → AllByRecursion IsAtRest old.replica.state.segments → segment < length old.replica.state.segments
     → new.replica.state ≡ with_put old.replica.state segment (Some entry) true → new.mode ≡ Down
@@ -217,7 +217,7 @@ abbrev pub submission_at : StorageState → Client → Number → List ℕ → S
 submission_at node client number bytes =
     submit (member_in node) (own_entries node.replica.state) node.replica.state.known (entry_of client number bytes)
 
-pub turns-submitted : (old new : StorageState) (client : Client) (number : Number) (bytes : List ℕ) (answer : Submitted) (failed : Bool) (turn : Turn) → old.mode ≡ Running
+pub turns-submitted : (old new : StorageState) (client : Client) (number : Number) (bytes : List ℕ) (answer : Submitted) (failed : Bool) (turn : Effect) → old.mode ≡ Running
     → old.replica.state.own < length old.replica.state.segments → failed ≡ false → failed ≡ is_halted answer → TellsSubmitted answer (submission_at old client number bytes)
     → new.replica.state ≡ with_put old.replica.state old.replica.state.own (submission_at old client number bytes).put (is_halted answer)
     → TellsPut (submission_at old client number bytes).put old.replica.state.own (is_halted answer) old.replica.media new.replica.media
@@ -237,7 +237,7 @@ turns-submitted old new client number bytes answer failed turn running lt done i
     (reply ∙ submitted-reply answer submission run told ∙ ap (λ (es : List Entry). submit_reply (submit (member_in old) es old.replica.state.known entry).answer) (sym own))
     (reply-small turn.outputs turn.reply (reply_to_submitted answer) outputs reply (submitted-short answer))
 
-pub turns-submit-halted : (old new : StorageState) (client : Client) (number : Number) (bytes : List ℕ) (answer : Submitted) (failed : Bool) (turn : Turn) → old.mode ≡ Running
+pub turns-submit-halted : (old new : StorageState) (client : Client) (number : Number) (bytes : List ℕ) (answer : Submitted) (failed : Bool) (turn : Effect) → old.mode ≡ Running
     → IsSound Running old.replica.state → old.replica.state.own < length old.replica.state.segments → failed ≡ true → failed ≡ is_halted answer
     → TellsSubmitted answer (submission_at old client number bytes)
     → new.replica.state ≡ with_put old.replica.state old.replica.state.own (submission_at old client number bytes).put (is_halted answer)

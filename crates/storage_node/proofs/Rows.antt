@@ -13,7 +13,7 @@ use Rattle.node_model.specs.StorageRow.{outcome, row, storage_role}
 use Rattle.record_frame.specs.declared.entries.Entry.{Entry}
 use Rattle.storage_node.specs.declared.node.Mode.{Mode}
 use Rattle.storage_node.specs.declared.node.Mode.TheVariants.{Running}
-use Rattle.storage_node.specs.declared.turn.Turn.{Turn}
+use Rattle.history_frame.specs.declared.events.Effect.{Effect}
 use Rattle.storage_node.specs.Counting.{CountsOn}
 use Rattle.storage_node.specs.Opening.{RoseIn}
 use Rattle.storage_node.specs.StorageState.{StorageState, config_of, lists_in, member_in, memory_of, mode_of, node_of}
@@ -87,7 +87,7 @@ no_start config member node input memory change r start =
     let none : row config member node.durable memory Restart ≡ Some change = subst (λ (i : Input). row config member node.durable memory i ≡ Some change) start r in cc
 
 -- an event that is done turns out by its row
-pub turns-done : (old new : StorageState) (input : Input) (change : StorageChange) (turn : Turn) → old.mode ≡ Running
+pub turns-done : (old new : StorageState) (input : Input) (change : StorageChange) (turn : Effect) → old.mode ≡ Running
     → row (config_of old) (member_in old) (lists_in old) (memory_of old.replica.state old.ticks) input ≡ Some change
     → turn.mark ≡ Done → node_of new ≡ (after_row (config_of old) (member_in old) (node_of old) change).node
     → turn.outputs ≡ change.outputs → turn.reply ≡ change.reply → config_of new ≡ config_of old → member_in new ≡ member_in old
@@ -116,7 +116,7 @@ turns-done old new input change turn running r mark node outputs reply config me
     not_stayed m a b = cc
 
 -- an event that halts turns out by its row
-pub turns-halted : (old new : StorageState) (input : Input) (change : StorageChange) (put : Put) (turn : Turn) → old.mode ≡ Running
+pub turns-halted : (old new : StorageState) (input : Input) (change : StorageChange) (put : Put) (turn : Effect) → old.mode ≡ Running
     → row (config_of old) (member_in old) (lists_in old) (memory_of old.replica.state old.ticks) input ≡ Some change → change.put ≡ Some put
     → turn.mark ≡ Halted → node_of new ≡ (after_halt (node_of old) (memory_of old.replica.state old.ticks) input put).node
     → turn.outputs ≡ [] → turn.reply ≡ to_call input DiskFailed → config_of new ≡ config_of old → member_in new ≡ member_in old

@@ -12,7 +12,7 @@ use Rattle.node_model.specs.StorageNode.{Put, StorageOutcome}
 use Rattle.node_model.specs.StorageRow.{names, outcome, storage_role}
 use Rattle.storage_node.specs.declared.node.Mode.{Mode}
 use Rattle.storage_node.specs.declared.node.Mode.TheVariants.{Down}
-use Rattle.storage_node.specs.declared.turn.Turn.{Turn}
+use Rattle.history_frame.specs.declared.events.Effect.{Effect}
 use Rattle.storage_node.specs.StorageState.{StorageState, config_of, member_in, mode_of, node_of}
 use Rattle.storage_node.specs.Turning.{IsSmall, IsTold, TurnsOut, put_in}
 use Rattle.storage_node.proofs.Counting.{counts-same}
@@ -45,7 +45,7 @@ short-answer Lead = omega arith
 short-answer Stop = omega arith
 short-answer Restart = omega arith
 
-pub turns-slept : (node : StorageState) (input : Input) (turn : Turn) → node.mode ≡ Down → is_named names input ≡ true → input ≢ Restart → input ≢ Stop
+pub turns-slept : (node : StorageState) (input : Input) (turn : Effect) → node.mode ≡ Down → is_named names input ≡ true → input ≢ Restart → input ≢ Stop
     → turn.mark ≡ Done → turn.outputs ≡ [] → turn.reply ≡ to_call input IsDown → TurnsOut node input turn node
 turns-slept node input turn down named start stop mark outputs reply = record {
   row = record {

@@ -18,7 +18,7 @@ use Rattle.shard_replica.specs.Lists.{HoldsRecords, segment_of, segments_of}
 use Rattle.shard_replica.specs.Replica.{ReplicaState, at_first, lists_of, member_of}
 use Rattle.storage_node.specs.declared.node.Mode.{Mode}
 use Rattle.storage_node.specs.declared.node.Mode.TheVariants.{Down, Running}
-use Rattle.storage_node.specs.declared.turn.Turn.{Turn}
+use Rattle.history_frame.specs.declared.events.Effect.{Effect}
 use Rattle.storage_node.specs.StorageState.{HasOneFlight, IsFew, IsOf, IsSound, IsStorage, StorageState}
 use Rattle.storage_node.specs.Turning.{TurnsOut}
 use Rattle.storage_node.proofs.Learning.{learn-counts, learn-covers}
@@ -72,10 +72,10 @@ storage-new {X} state journals config shard own now sent count holds one is none
 }
 
 -- a turn of the node as its parts are
-pub turned-from : (inside old new : StorageState) (input : Input) (turn : Turn) → inside ≡ old → TurnsOut inside input turn new → TurnsOut old input turn new
+pub turned-from : (inside old new : StorageState) (input : Input) (turn : Effect) → inside ≡ old → TurnsOut inside input turn new → TurnsOut old input turn new
 turned-from inside old new input turn e h = subst (λ (v : StorageState). TurnsOut v input turn new) e h
 
-pub turned-same : (inside node : StorageState) (input : Input) (turn : Turn) → inside ≡ node → TurnsOut inside input turn inside → TurnsOut node input turn node
+pub turned-same : (inside node : StorageState) (input : Input) (turn : Effect) → inside ≡ node → TurnsOut inside input turn inside → TurnsOut node input turn node
 turned-same inside node input turn e h = subst (λ (v : StorageState). TurnsOut v input turn v) e h
 
 -- the own list is one of the lists

@@ -21,7 +21,7 @@ use Rattle.shard_replica.specs.Lists.{Medium, answer_of, came_to, has_one_more, 
 use Rattle.shard_replica.specs.Replica.{Replicated, ReplicaState, at_first, lists_of, member_of, state_after}
 use Rattle.storage_node.specs.declared.node.Mode.{Mode}
 use Rattle.storage_node.specs.declared.node.Mode.TheVariants.{Down, Running}
-use Rattle.storage_node.specs.declared.turn.Turn.{Turn}
+use Rattle.history_frame.specs.declared.events.Effect.{Effect}
 use Rattle.storage_node.specs.Opening.{mark_after, opening_mark}
 use Rattle.storage_node.specs.Counting.{CountsOn}
 use Rattle.storage_node.specs.Preparing.{AreRead, IsReloaded}
@@ -63,7 +63,7 @@ down-node old new sound state mode =
     ∙ ap (λ (m : StorageMode). as_node (lists_in old) m) (stopped-mode old.mode old.replica.state old.ticks new.ticks sound)
 
 -- a stop
-pub turns-stopped : (old new : StorageState) (turn : Turn) → IsSound old.mode old.replica.state → new.replica.state ≡ old.replica.state → new.mode ≡ Down
+pub turns-stopped : (old new : StorageState) (turn : Effect) → IsSound old.mode old.replica.state → new.replica.state ≡ old.replica.state → new.mode ≡ Down
     → CountsOn old.replica.media new.replica.media → turn.mark ≡ Done → turn.outputs ≡ [] → turn.reply ≡ Nothing → TurnsOut old Stop turn new
 unfolding outcome
 turns-stopped old new turn sound state mode counts mark outputs reply =
@@ -86,7 +86,7 @@ turns-stopped old new turn sound state mode counts mark outputs reply =
     }
 
 -- a start that a list could not be read for
-pub turns-stayed : (old new : StorageState) (turn : Turn) → IsSound old.mode old.replica.state → answer_of old.replica.last_reload old.replica.media ≡ Failed
+pub turns-stayed : (old new : StorageState) (turn : Effect) → IsSound old.mode old.replica.state → answer_of old.replica.last_reload old.replica.media ≡ Failed
     → new.replica.state ≡ old.replica.state → new.mode ≡ Down → CountsOn old.replica.media new.replica.media
     → turn.mark ≡ StayedDown → turn.outputs ≡ [] → turn.reply ≡ Nothing → TurnsOut old Restart turn new
 unfolding outcome
@@ -148,7 +148,7 @@ opening-usual true e = cc
 opening-usual false e = cc
 
 -- a start
-turns-read : (old new : StorageState) (turn : Turn) → IsSound old.mode old.replica.state → AreRead old.replica.state.segments old.replica.media
+turns-read : (old new : StorageState) (turn : Effect) → IsSound old.mode old.replica.state → AreRead old.replica.state.segments old.replica.media
     → old.replica.last_reload ≡ Some WasRead
     → new.replica.state ≡ at_first (config_of old) old.replica.state.shard old.replica.state.own (reopened_all old.replica.state.segments old.replica.media)
     → new.mode ≡ Running → new.ticks ≡ 0 → CountsOn old.replica.media new.replica.media → turn.mark ≡ opening_mark (came_to old.replica.media) → turn.outputs ≡ [] → turn.reply ≡ Nothing → TurnsOut old Restart turn new
@@ -182,7 +182,7 @@ was-read replica None reloaded good = absurd reloaded
 was-read replica (Some Unread) reloaded good = absurd (good refl)
 was-read replica (Some WasRead) reloaded good = (refl, reloaded)
 
-pub turns-opened : (old new : StorageState) (turn : Turn) (answer : Installed) → IsSound old.mode old.replica.state → IsReloaded old.replica.last_reload old.replica
+pub turns-opened : (old new : StorageState) (turn : Effect) (answer : Installed) → IsSound old.mode old.replica.state → IsReloaded old.replica.last_reload old.replica
     → answer ≡ answer_of old.replica.last_reload old.replica.media → answer ≢ Failed
     → new.replica.state ≡ state_after old.replica.last_reload old.replica.state old.replica.media
     → new.mode ≡ Running → new.ticks ≡ 0 → CountsOn old.replica.media new.replica.media → turn.mark ≡ opening_mark answer → turn.outputs ≡ [] → turn.reply ≡ Nothing → TurnsOut old Restart turn new

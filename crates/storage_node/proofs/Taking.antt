@@ -22,7 +22,7 @@ use Rattle.shard_replica.specs.Lists.{Segment, after_put, no_segment, segment_at
 use Rattle.shard_replica.specs.Replica.{Replicated, ReplicaState, lists_of, member_of, with_put}
 use Rattle.shard_replica.proofs.Held.{list-of}
 use Rattle.storage_node.specs.declared.node.Mode.TheVariants.{Down, Running}
-use Rattle.storage_node.specs.declared.turn.Turn.{Turn}
+use Rattle.history_frame.specs.declared.events.Effect.{Effect}
 use Rattle.storage_node.specs.Preparing.{IsLetter}
 use Rattle.storage_node.specs.StorageState.{IsAtRest, StorageState, config_of, lists_in, member_in, memory_of}
 use Rattle.storage_node.specs.Turning.{IsSilent, IsSmall, TurnsOut}
@@ -55,7 +55,7 @@ told-small sent expected reply is few letters nothing =
     subst (λ (r : Reply). IsSmall sent r) (sym nothing) (record { few = subst (λ (l : List Sent). length l ≤ 22) (sym is) few; letters = letters; reply = omega arith })
 
 -- the next entry is put, acknowledged and reported
-pub turns-next : (old mid new : StorageState) (place index : ℕ) (segment : Peer) (offset : ℕ) (entry found : Entry) (failed : Bool) (turn : Turn) → old.mode ≡ Running
+pub turns-next : (old mid new : StorageState) (place index : ℕ) (segment : Peer) (offset : ℕ) (entry found : Entry) (failed : Bool) (turn : Effect) → old.mode ≡ Running
     → segment.0 < length old.replica.state.segments → found ≡ entry → failed ≡ false
     → taking_of offset (length (segment_at old.replica.state.segments segment.0).entries) ≡ IsNext
     → mid.replica.state ≡ with_put old.replica.state segment.0 (copied_entry (taking_of offset (length (segment_at old.replica.state.segments segment.0).entries)) found) failed
@@ -80,7 +80,7 @@ turns-next old mid new place index segment offset entry found failed turn runnin
     silent.mark outs silent.reply (told-small turn.outputs _ turn.reply outs (omega arith) letters silent.reply)
 
 -- any other entry is acknowledged alone
-pub turns-other : (old mid new : StorageState) (place index : ℕ) (segment : Peer) (offset : ℕ) (entry found : Entry) (failed : Bool) (taking : Taking) (turn : Turn) → old.mode ≡ Running
+pub turns-other : (old mid new : StorageState) (place index : ℕ) (segment : Peer) (offset : ℕ) (entry found : Entry) (failed : Bool) (taking : Taking) (turn : Effect) → old.mode ≡ Running
     → segment.0 < length old.replica.state.segments → taking ≢ IsNext
     → taking_of offset (length (segment_at old.replica.state.segments segment.0).entries) ≡ taking
     → mid.replica.state ≡ with_put old.replica.state segment.0 (copied_entry (taking_of offset (length (segment_at old.replica.state.segments segment.0).entries)) found) failed
@@ -113,7 +113,7 @@ turns-other old mid new place index segment offset entry found failed taking tur
     other-row IsMissing other = refl
 
 -- the put fails
-pub turns-copy-halted : (old new : StorageState) (place index : ℕ) (segment : Peer) (offset : ℕ) (entry found : Entry) (turn : Turn) → old.mode ≡ Running
+pub turns-copy-halted : (old new : StorageState) (place index : ℕ) (segment : Peer) (offset : ℕ) (entry found : Entry) (turn : Effect) → old.mode ≡ Running
     → AllByRecursion IsAtRest old.replica.state.segments → segment.0 < length old.replica.state.segments → found ≡ entry
     → taking_of offset (length (segment_at old.replica.state.segments segment.0).entries) ≡ IsNext
     → new.replica.state ≡ with_put old.replica.state segment.0 (copied_entry (taking_of offset (length (segment_at old.replica.state.segments segment.0).entries)) found) true

@@ -27,7 +27,7 @@ use Rattle.shard_replica.specs.Replica.{Replicated, ReplicaState, lists_of, memb
 use Rattle.shard_replica.proofs.Held.{list-of}
 use Rattle.storage_node.specs.declared.node.Mode.{Mode}
 use Rattle.storage_node.specs.declared.node.Mode.TheVariants.{Running}
-use Rattle.storage_node.specs.declared.turn.Turn.{Turn}
+use Rattle.history_frame.specs.declared.events.Effect.{Effect}
 use Rattle.storage_node.specs.Preparing.{IsLetter, copies_for, copies_for_message}
 use Rattle.storage_node.specs.StorageState.{IsFew, IsOf, IsSound, StorageState, config_of, lists_in, member_in, memory_of, mode_of}
 use Rattle.storage_node.specs.Turning.{TurnsOut}
@@ -126,7 +126,7 @@ length-windows config member own copying peer (suc count) =
 -- ---- the rows
 
 -- a peer says how much it holds
-pub turns-copied : (old new : StorageState) (place index : ℕ) (peer : Peer) (held : ℕ) (turn : Turn) → old.mode ≡ Running → new.mode ≡ Running → new.ticks ≡ old.ticks
+pub turns-copied : (old new : StorageState) (place index : ℕ) (peer : Peer) (held : ℕ) (turn : Effect) → old.mode ≡ Running → new.mode ≡ Running → new.ticks ≡ old.ticks
     → new.replica.state ≡ record old.replica.state { copying = after_note old.replica.state.copying peer.0 held } → new.replica.media ≡ old.replica.media
     → old.copies ≡ copies_for_message old (CopyAck peer held) → AllByRecursion IsLetter old.copies
     → turn.mark ≡ Done → turn.outputs ≡ old.copies → turn.reply ≡ Nothing → TurnsOut old (Deliver place index (Some (CopyAck peer held))) turn new
@@ -145,7 +145,7 @@ turns-copied old new place index peer held turn running runs ticks state media m
     tt (counts-same old.replica.media new.replica.media media)
 
 -- time passes
-pub turns-ticked : (old new : StorageState) (turn : Turn) → old.mode ≡ Running → new.mode ≡ Running → new.ticks ≡ old.ticks + 1 → new.replica ≡ old.replica
+pub turns-ticked : (old new : StorageState) (turn : Effect) → old.mode ≡ Running → new.mode ≡ Running → new.ticks ≡ old.ticks + 1 → new.replica ≡ old.replica
     → (config_of old).replicas ≤ 5 → old.copies ≡ copies_for old Tick → AllByRecursion IsLetter turn.outputs
     → turn.mark ≡ Done
     → turn.outputs ≡ old.copies ++ report (config_of old) (member_in old) (lists_in old) ∷ want (config_of old) (member_in old) (memory_of old.replica.state old.ticks) ∷ []

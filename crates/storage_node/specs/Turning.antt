@@ -13,7 +13,7 @@ use Rattle.node_model.specs.StorageNode.{Put, StorageChange, StorageMode, Storag
 use Rattle.node_model.specs.StorageRow.{outcome, row}
 use Rattle.segment_journal.specs.Journalled.{Turns}
 use Rattle.shard_replica.specs.Lists.{medium_at}
-use Rattle.storage_node.specs.declared.turn.Turn.{Turn}
+use Rattle.history_frame.specs.declared.events.Effect.{Effect}
 use Rattle.storage_node.specs.Counting.{CountsOn}
 use Rattle.storage_node.specs.Opening.{RoseIn, mark_after}
 use Rattle.storage_node.specs.Preparing.{IsLetter}
@@ -60,7 +60,7 @@ IsTold node mark (Some put) = IfSome (medium_at node.replica.media put.segment).
 
 -- How an event turned out: it is a row of the rules, and its mark is the one that its journals tell. A node halts only where a
 -- count of faults rose, and none falls.
-pub record TurnsOut (old : StorageState) (input : Input) (turn : Turn) (new : StorageState) : Type 0 where
+pub record TurnsOut (old : StorageState) (input : Input) (turn : Effect) (new : StorageState) : Type 0 where
   pub row : IsTurn old input turn.mark turn.outputs turn.reply new
   pub small : IsSmall turn.outputs turn.reply
   pub halted : turn.mark ≡ Halted → RoseIn old.replica.media new.replica.media
@@ -70,7 +70,7 @@ pub record TurnsOut (old : StorageState) (input : Input) (turn : Turn) (new : St
   pub stayed : turn.mark ≡ StayedDown → input ≡ Restart
 
 -- letters go out, and nothing else changes
-pub record IsSilent (old : StorageState) (turn : Turn) (new : StorageState) : Type 0 where
+pub record IsSilent (old : StorageState) (turn : Effect) (new : StorageState) : Type 0 where
   pub mark : turn.mark ≡ Done
   pub reply : turn.reply ≡ Nothing
   pub replica : new.replica ≡ old.replica

@@ -4,6 +4,7 @@ ghost use Rattle.std.specs.Prelude.{◌≡◌, ◌≢◌, ℕ, ◌<◌, ◌≤�
 ghost use Rattle.std.specs.List.{All};
 ghost use Rattle.history_frame.specs.declared.inputs.Input.TheVariants.{Restart};
 ghost use Rattle.history_frame.specs.declared.inputs.Mark.TheVariants.{Halted, StayedDown};
+ghost use Rattle.history_frame.specs.Effects.{happened};
 ghost use Rattle.history_frame.specs.Spelling.{event_size};
 ghost use Rattle.log_base.specs.Shape.{shape};
 ghost use Rattle.node_model.specs.Fits.{Fits};
@@ -26,7 +27,7 @@ use crate::seat::Seat;
 use cut_chain::Places;
 use disk_base::Plan;
 use event_letters::EventLetters;
-use history_frame::{Happened, Input};
+use history_frame::{Effect, Happened, Input};
 use log_base::{Config, Memory, Outbox, Position, Replica, Shard};
 use segment_journal::Journal;
 use shard_replica::ShardReplica;
@@ -188,13 +189,26 @@ impl<J: Journal, P: Places> StorageNode<J, P> {
         ensures opened { input ≡ Restart → result.mark ≡ mark_after self.old.replica.last_reload self.old.replica.media }
         ensures stayed { result.mark ≡ StayedDown → input ≡ Restart }
     {
-        let turn = self.turn(&input, out);
-        Happened {
-            input,
-            mark: turn.mark,
-            outputs: turn.outputs,
-            reply: turn.reply,
-        }
+        let effect = self.act(&input, out);
+        effect.on(input)
+    }
+
+    /// What the row of an input does. What it puts is stored before a letter is in the outbox. It takes no
+    /// memory.
+    pub fn act(&mut self, input: &Input, out: &mut Outbox) -> Effect
+        requires fits { Fits (config_of self.old) (Storage (record { 0 = self.old.replica.state.shard }) (record { 0 = self.old.replica.state.own })) (Storing (node_of self.old)) input.now }
+        requires ready { IsReady self.old input.now out.old }
+        ensures row { IsTurn self.old input.now result.mark result.outputs result.reply self.new }
+        ensures letters { out.new.letters ≡ out.old.letters ++ map posted result.outputs }
+        ensures few { length result.outputs ≤ 255 }
+        ensures size { event_size (happened input.now result) ≤ 2097152 }
+        ensures halted { result.mark ≡ Halted → RoseIn self.old.replica.media self.new.replica.media }
+        ensures counts { CountsOn self.old.replica.media self.new.replica.media }
+        ensures told { IsTold self.old result.mark (put_at self.old input.now) }
+        ensures opened { input.now ≡ Restart → result.mark ≡ mark_after self.old.replica.last_reload self.old.replica.media }
+        ensures stayed { result.mark ≡ StayedDown → input.now ≡ Restart }
+    {
+        self.turn(input, out)
     }
 
     /// Hands the plan to each journal.

@@ -12,9 +12,9 @@ ghost use Rattle.storage_node.specs.StorageState.{lists_in, member_in};
 ghost use Rattle.storage_node.specs.Turning.{TurnsOut};
 
 use super::{Mode, StorageNode};
-use crate::turn::Turn;
+use crate::turn::silent;
 use cut_chain::Places;
-use history_frame::Mark;
+use history_frame::{Effect, Mark};
 use log_base::{Bytes, Client, Number, Position};
 use record_frame::Entry;
 use reply_frame::Reply;
@@ -24,7 +24,7 @@ use std::mem;
 
 impl<J: Journal, P: Places> StorageNode<J, P> {
     /// An entry is put at the end of the own list, or the reply says why not.
-    pub(super) fn submit(&mut self, client: Client, number: Number, bytes: &[u8]) -> Turn
+    pub(super) fn submit(&mut self, client: Client, number: Number, bytes: &[u8]) -> Effect
         requires running { self.old.mode ≡ Mode.Running }
         requires size { length bytes.now ≤ 65535 }
         requires room { HasPayloadRoom self.old.replica (length bytes.now) }
@@ -34,23 +34,23 @@ impl<J: Journal, P: Places> StorageNode<J, P> {
         let answer = self.replica.submit(client, number, bytes);
         if is_halted(answer) {
             self.mode = Mode::Down;
-            return Turn::silent(self.made.alloc, Mark::Halted, Reply::Halted);
+            return silent(self.made.alloc, Mark::Halted, Reply::Halted);
         }
-        Turn::silent(self.made.alloc, Mark::Done, reply_to_submit(answer))
+        silent(self.made.alloc, Mark::Done, reply_to_submit(answer))
     }
 
     /// Where the entry of a pair stands.
-    pub(super) fn ask(&self, client: Client, number: Number) -> Turn
+    pub(super) fn ask(&self, client: Client, number: Number) -> Effect
         requires { self.now.mode ≡ Mode.Running }
         ensures turn { TurnsOut self.now (ACall (Ask client number)) result self.now }
         ensures silent { result.outputs ≡ [] }
     {
         let answer = self.replica.ask(client, number);
-        Turn::silent(self.made.alloc, Mark::Done, reply_to_ask(answer))
+        silent(self.made.alloc, Mark::Done, reply_to_ask(answer))
     }
 
     /// What stands at a position.
-    pub(super) fn read(&mut self, client: Client, position: Position) -> Turn
+    pub(super) fn read(&mut self, client: Client, position: Position) -> Effect
         requires running { self.old.mode ≡ Mode.Running }
         requires room { FitsRecord self.old.record_room (read (member_in self.old) (lists_in self.old) self.old.replica.state.known position.0) }
         ensures turn { TurnsOut self.old (ACall (Read client position)) result self.new }
@@ -59,7 +59,7 @@ impl<J: Journal, P: Places> StorageNode<J, P> {
         let alloc = self.made.alloc;
         let found = mem::replace(&mut self.made.found, Vec::new(alloc));
         let reply = reply_to_read(position, self.replica.read(position), found);
-        Turn::silent(alloc, Mark::Done, reply)
+        silent(alloc, Mark::Done, reply)
     }
 }
 

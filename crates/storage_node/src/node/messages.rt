@@ -17,9 +17,9 @@ ghost use Rattle.storage_node.specs.Turning.{IsSilent, TurnsOut};
 
 use super::{Mode, StorageNode};
 use crate::sending::{send_ack, send_all, send_report};
-use crate::turn::Turn;
+use crate::turn::{silent, told};
 use cut_chain::Places;
-use history_frame::Mark;
+use history_frame::{Effect, Mark};
 use log_base::{Outbox, Replica, Slot};
 use record_frame::{Entry, Value};
 use reply_frame::Reply;
@@ -36,7 +36,7 @@ impl<J: Journal, P: Places> StorageNode<J, P> {
         offset: u32,
         entry: &Entry,
         out: &mut Outbox,
-    ) -> Turn
+    ) -> Effect
         requires running { self.old.mode ≡ Mode.Running }
         requires segment { segment.0 < (config_of self.old).replicas }
         requires offset { offset < 16384 }
@@ -49,7 +49,7 @@ impl<J: Journal, P: Places> StorageNode<J, P> {
         match self.replica.copy(segment, offset, &self.made.payload) {
             Copied::Halted => {
                 self.mode = Mode::Down;
-                return Turn::silent(self.made.alloc, Mark::Halted, Reply::Nothing);
+                return silent(self.made.alloc, Mark::Halted, Reply::Nothing);
             }
             Copied::Put { len } => return self.tell_copy(segment, len, out),
             Copied::Have { len } => return self.tell_length(segment, len, out),
@@ -58,7 +58,7 @@ impl<J: Journal, P: Places> StorageNode<J, P> {
     }
 
     // What was copied is acknowledged and reported.
-    fn tell_copy(&mut self, segment: Replica, len: u32, out: &mut Outbox) -> Turn
+    fn tell_copy(&mut self, segment: Replica, len: u32, out: &mut Outbox) -> Effect
         requires segment { segment.0 < (config_of self.old).replicas }
         requires length { len ≡ length (list_in (lists_in self.old) segment.0) }
         requires space { HasSpace self.old.letters out.old.rooms (ack_size ∷ report_size ∷ []) }
@@ -71,11 +71,11 @@ impl<J: Journal, P: Places> StorageNode<J, P> {
         send_ack(&self.seat, segment, len, &mut self.made.letters, out);
         let lengths = self.replica.lengths();
         send_report(&self.seat, lengths, &mut self.made.letters, out);
-        Turn::told(self.made.letters.take())
+        told(self.made.letters.take())
     }
 
     // The length of a list is acknowledged.
-    fn tell_length(&mut self, segment: Replica, len: u32, out: &mut Outbox) -> Turn
+    fn tell_length(&mut self, segment: Replica, len: u32, out: &mut Outbox) -> Effect
         requires segment { segment.0 < (config_of self.old).replicas }
         requires length { len ≡ length (list_in (lists_in self.old) segment.0) }
         requires space { HasSpace self.old.letters out.old.rooms (ack_size ∷ report_size ∷ []) }
@@ -85,11 +85,11 @@ impl<J: Journal, P: Places> StorageNode<J, P> {
         ensures letters { out.new.letters ≡ out.old.letters ++ map posted result.outputs }
     {
         send_ack(&self.seat, segment, len, &mut self.made.letters, out);
-        Turn::told(self.made.letters.take())
+        told(self.made.letters.take())
     }
 
     /// A peer says how much of the own list it holds. What comes into its window is sent.
-    pub(super) fn copied(&mut self, peer: Replica, held: u32, out: &mut Outbox) -> Turn
+    pub(super) fn copied(&mut self, peer: Replica, held: u32, out: &mut Outbox) -> Effect
         requires running { self.old.mode ≡ Mode.Running }
         requires peer { peer.0 < (config_of self.old).replicas }
         requires other { peer.0 ≢ self.old.replica.state.own }
@@ -104,11 +104,11 @@ impl<J: Journal, P: Places> StorageNode<J, P> {
         self.replica.copy_ack(peer, held);
         let copies = mem::replace(&mut self.made.copies, Vec::new(alloc));
         send_all(copies, &mut self.made.letters, out);
-        Turn::told(self.made.letters.take())
+        told(self.made.letters.take())
     }
 
     /// The value of a slot is decided.
-    pub(super) fn decide(&mut self, slot: Slot, value: &Value) -> Turn
+    pub(super) fn decide(&mut self, slot: Slot, value: &Value) -> Effect
         requires running { self.old.mode ≡ Mode.Running }
         requires slot { slot.0 < 16384 }
         requires value { IsFor (config_of self.old) value.now }
@@ -118,6 +118,6 @@ impl<J: Journal, P: Places> StorageNode<J, P> {
         ensures silent { result.outputs ≡ [] }
     {
         self.replica.learn(slot, value);
-        Turn::silent(self.made.alloc, Mark::Done, Reply::Nothing)
+        silent(self.made.alloc, Mark::Done, Reply::Nothing)
     }
 }

@@ -8,21 +8,21 @@ ghost use Rattle.storage_node.specs.Preparing.{IsReloaded};
 ghost use Rattle.storage_node.specs.Turning.{TurnsOut};
 
 use super::{Mode, StorageNode};
-use crate::turn::Turn;
+use crate::turn::silent;
 use cut_chain::Places;
-use history_frame::Mark;
+use history_frame::{Effect, Mark};
 use log_base::Memory;
 use reply_frame::Reply;
 use segment_journal::{Installed, Journal, OpenFault};
 
 impl<J: Journal, P: Places> StorageNode<J, P> {
     /// The node goes down, or stays so.
-    pub(super) fn stop(&mut self) -> Turn
+    pub(super) fn stop(&mut self) -> Effect
         ensures turn { TurnsOut self.old Stop result self.new }
         ensures silent { result.outputs ≡ [] }
     {
         self.mode = Mode::Down;
-        Turn::silent(self.made.alloc, Mark::Done, Reply::Nothing)
+        silent(self.made.alloc, Mark::Done, Reply::Nothing)
     }
 
     /// Reads the lists anew.
@@ -43,7 +43,7 @@ impl<J: Journal, P: Places> StorageNode<J, P> {
 
     /// The node starts with the lists that were read, and all else as at first. Where a list could not be
     /// read it stays down.
-    pub(super) fn restart(&mut self) -> Turn
+    pub(super) fn restart(&mut self) -> Effect
         requires { IsReloaded self.old.replica.last_reload self.old.replica }
         ensures turn { TurnsOut self.old Restart result self.new }
         ensures silent { result.outputs ≡ [] }
@@ -51,17 +51,17 @@ impl<J: Journal, P: Places> StorageNode<J, P> {
         match self.replica.install() {
             Installed::Failed => {
                 self.mode = Mode::Down;
-                return Turn::silent(self.made.alloc, Mark::StayedDown, Reply::Nothing);
+                return silent(self.made.alloc, Mark::StayedDown, Reply::Nothing);
             }
             Installed::OneMore => {
                 self.mode = Mode::Running;
                 self.ticks = 0;
-                return Turn::silent(self.made.alloc, Mark::OpenedWith, Reply::Nothing);
+                return silent(self.made.alloc, Mark::OpenedWith, Reply::Nothing);
             }
             Installed::Same => {
                 self.mode = Mode::Running;
                 self.ticks = 0;
-                return Turn::silent(self.made.alloc, Mark::OpenedWithout, Reply::Nothing);
+                return silent(self.made.alloc, Mark::OpenedWithout, Reply::Nothing);
             }
         }
     }

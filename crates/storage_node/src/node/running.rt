@@ -15,9 +15,9 @@ ghost use Rattle.storage_node.specs.StorageState.{config_of, lists_in, member_in
 ghost use Rattle.storage_node.specs.Turning.{TurnsOut};
 
 use super::{Mode, StorageNode};
-use crate::turn::Turn;
+use crate::turn::silent;
 use cut_chain::Places;
-use history_frame::{Call, Input, Mark};
+use history_frame::{Call, Effect, Input, Mark};
 use log_base::Outbox;
 use message_frame::Message;
 use reply_frame::Reply;
@@ -25,7 +25,7 @@ use segment_journal::Journal;
 
 impl<J: Journal, P: Places> StorageNode<J, P> {
     /// How an input turns out.
-    pub(super) fn turn(&mut self, input: &Input, out: &mut Outbox) -> Turn
+    pub(super) fn turn(&mut self, input: &Input, out: &mut Outbox) -> Effect
         requires fits { Fits (config_of self.old) (Storage (record { 0 = self.old.replica.state.shard }) (record { 0 = self.old.replica.state.own })) (Storing (node_of self.old)) input.now }
         requires ready { IsReady self.old input.now out.old }
         ensures turn { TurnsOut self.old input.now result self.new }
@@ -43,18 +43,18 @@ impl<J: Journal, P: Places> StorageNode<J, P> {
     }
 
     // Nothing happens at a node that is down. A call is answered so.
-    fn sleep(&self, input: &Input) -> Turn
+    fn sleep(&self, input: &Input) -> Effect
         requires down { self.now.mode ≡ Mode.Down }
         requires named { is_named names input.now ≡ true }
         requires other { (input.now ≢ Restart) × (input.now ≢ Stop) }
         ensures turn { TurnsOut self.now input.now result self.now }
         ensures silent { result.outputs ≡ [] }
     {
-        Turn::silent(self.made.alloc, Mark::Done, reply_when_down(input))
+        silent(self.made.alloc, Mark::Done, reply_when_down(input))
     }
 
     // The row of an input at a running node.
-    fn run(&mut self, input: &Input, out: &mut Outbox) -> Turn
+    fn run(&mut self, input: &Input, out: &mut Outbox) -> Effect
         requires running { self.old.mode ≡ Mode.Running }
         requires fits { Fits (config_of self.old) (Storage (record { 0 = self.old.replica.state.shard }) (record { 0 = self.old.replica.state.own })) (Storing (node_of self.old)) input.now }
         requires other { (input.now ≢ Restart) × (input.now ≢ Stop) }
@@ -78,7 +78,7 @@ impl<J: Journal, P: Places> StorageNode<J, P> {
     }
 
     // The row of a message.
-    fn take(&mut self, message: &Message, out: &mut Outbox) -> Turn
+    fn take(&mut self, message: &Message, out: &mut Outbox) -> Effect
         requires running { self.old.mode ≡ Mode.Running }
         requires named { is_message message.now ≡ true }
         requires message { IsMessage message.now }
@@ -101,7 +101,7 @@ impl<J: Journal, P: Places> StorageNode<J, P> {
     }
 
     // The row of a call.
-    fn answer(&mut self, call: &Call) -> Turn
+    fn answer(&mut self, call: &Call) -> Effect
         requires running { self.old.mode ≡ Mode.Running }
         requires named { is_call call.now ≡ true }
         requires range { IsCallOf (config_of self.old) call.now }
@@ -130,10 +130,10 @@ impl<J: Journal, P: Places> StorageNode<J, P> {
     }
 
     // Such an input is not for a storage node.
-    fn nothing(&self) -> Turn
+    fn nothing(&self) -> Effect
         ensures { result.outputs ≡ [] }
     {
-        Turn::silent(self.made.alloc, Mark::Done, Reply::Nothing)
+        silent(self.made.alloc, Mark::Done, Reply::Nothing)
     }
 }
 

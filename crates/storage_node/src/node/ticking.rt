@@ -10,8 +10,9 @@ ghost use Rattle.storage_node.specs.Turning.{TurnsOut};
 
 use super::{Mode, StorageNode};
 use crate::sending::{send_all, send_report, send_want};
-use crate::turn::Turn;
+use crate::turn::told;
 use cut_chain::Places;
+use history_frame::Effect;
 use log_base::Outbox;
 use segment_journal::Journal;
 use std::mem;
@@ -19,7 +20,7 @@ use std::mem;
 impl<J: Journal, P: Places> StorageNode<J, P> {
     /// What is on its way to the peers is sent again, then the report, then the want to the orderer whose
     /// turn it is.
-    pub(super) fn tick(&mut self, out: &mut Outbox) -> Turn
+    pub(super) fn tick(&mut self, out: &mut Outbox) -> Effect
         requires running { self.old.mode ≡ Mode.Running }
         requires few { self.old.ticks + 1 < 2 ^ 64 }
         requires copies { self.old.copies ≡ copies_for self.old Tick }
@@ -37,6 +38,6 @@ impl<J: Journal, P: Places> StorageNode<J, P> {
         send_report(&self.seat, lengths, letters, out);
         send_want(&self.seat, known, self.ticks, letters, out);
         self.ticks += 1;
-        Turn::told(self.made.letters.take())
+        told(self.made.letters.take())
     }
 }
