@@ -1,6 +1,7 @@
 -- A node of any role follows its role's row: what fits it fits its part, and what its part does is its row.
 use Rattle.std.proofs.Common.{◌≡◌, ℕ, List, Some, refl, sym, ap, subst, ◌∙◌}
 use Rattle.reply_frame.specs.declared.replies.Reply.{Reply}
+use Rattle.history_frame.specs.declared.events.Effect.{Effect}
 use Rattle.history_frame.specs.declared.events.Happened.{Happened}
 use Rattle.history_frame.specs.declared.events.Sent.{Sent}
 use Rattle.history_frame.specs.declared.inputs.Input.{Input}
@@ -59,21 +60,17 @@ pub is_row : (config : Shape) (number : ℕ) (old new : NodeState) (happened : H
 is_row config number old new happened turns = record { made = happened_as new happened; rule = turns; outputs = refl; reply = refl }
 
 -- the outcome of an event of a replica
-pub storage_turns : (old new : StorageState) (input : Input) (happened : Happened) → happened.input ≡ input
-    → IsTurn old input happened.mark happened.outputs happened.reply new
-    → outcome_as (config_of old) (role_in old) (Storing (storage_state old)) happened.input happened.mark
-    ≡ Some (happened_as (Storing (storage_state new)) happened)
-storage_turns old new input happened same turn =
-    ap (λ (i : Input). outcome_as (config_of old) (role_in old) (Storing (storage_state old)) i happened.mark) same
-    ∙ ap (as_outcome Storing) turn.rule
-    ∙ outcome_same turn.made.node (storage_state new) (sym turn.node)
+pub storage_turns : (old new : StorageState) (input : Input) (effect : Effect) → IsTurn old input effect.mark effect.outputs effect.reply new
+    → outcome_as (config_of old) (role_in old) (Storing (storage_state old)) input effect.mark
+    ≡ Some (outcome_made (Storing (storage_state new)) effect.outputs effect.reply)
+storage_turns old new input effect turn = ap (as_outcome Storing) turn.rule ∙ outcome_same turn.made.node (storage_state new) (sym turn.node)
   where
     outcome_same : (made now : StorageNode) → made ≡ now
-        → Some (outcome_made (Storing made) turn.made.outputs turn.made.reply) ≡ Some (happened_as (Storing now) happened)
+        → Some (outcome_made (Storing made) turn.made.outputs turn.made.reply) ≡ Some (outcome_made (Storing now) effect.outputs effect.reply)
     outcome_same made now e =
         ap (λ (n : StorageNode). Some (outcome_made (Storing n) turn.made.outputs turn.made.reply)) e
         ∙ ap (λ (o : List Sent). Some (outcome_made (Storing now) o turn.made.reply)) (sym turn.outputs)
-        ∙ ap (λ (r : Reply). Some (outcome_made (Storing now) happened.outputs r)) (sym turn.reply)
+        ∙ ap (λ (r : Reply). Some (outcome_made (Storing now) effect.outputs r)) (sym turn.reply)
 
 -- what the journals of a part tell is what those of its number tell
 pub part_told : {J P : Type 0} (state : NodeState) (config : Shape) (number : ℕ) (old : Part J P) (media : List Medium) (input : Input) (mark : Mark)

@@ -4,6 +4,7 @@ ghost use Rattle.std.specs.Prelude.{◌≡◌, ◌≢◌, ℕ, ◌≤◌, ◌++�
 ghost use Rattle.history_frame.specs.declared.inputs.Input.TheVariants.{Restart};
 ghost use Rattle.history_frame.specs.declared.inputs.Mark.{Mark};
 ghost use Rattle.history_frame.specs.declared.inputs.Mark.TheVariants.{Halted, StayedDown};
+ghost use Rattle.history_frame.specs.Effects.{happened};
 ghost use Rattle.log_base.specs.Shape.{shape};
 ghost use Rattle.node_model.specs.Machine.{node_meanings};
 ghost use Rattle.node_table.specs.Numbering.{role_at};
@@ -16,7 +17,7 @@ ghost use Rattle.safety_law.proofs.MachineLaw.{deliveries_fit as letters_fit};
 
 use crate::part::Part;
 use cut_chain::Places;
-use history_frame::{Happened, Input};
+use history_frame::{Effect, Happened, Input};
 use log_base::{Config, Machine, Memory, NodeId, Outbox};
 use node_model::RuleState;
 use segment_journal::Journal;
@@ -46,6 +47,28 @@ impl<J: Journal, P: Places> Model for Node<J, P> {
     ghost view = { λ n. record { config = shape n.config; number = n.number.0; part = n.part } };
 
     ghost invariant = { λ n. IsNode (shape n.config) n.number.0 n.part n.spare.items (vec_capacity n.spare) };
+}
+
+impl<J: Journal, P: Places> Node<J, P> {
+    /// What the row of an input does, by the rules of its role. The step of a machine is made of it.
+    pub fn act(&mut self, input: &Input, out: &mut Outbox) -> Effect
+        requires fits { node_meanings.fits (cluster_node J.state self.old) input.now }
+        requires ready { IsReadyFor J.state self.old.part input.now out.old }
+        ensures row { node_meanings.is_row (cluster_node J.state self.old) (happened input.now result) }
+        ensures after { cluster_node J.state self.new ≡ node_meanings.after (cluster_node J.state self.old) (happened input.now result) }
+        ensures letters { out.new.letters ≡ out.old.letters ++ node_meanings.outputs (happened input.now result) }
+        ensures few { length result.outputs ≤ 255 }
+        ensures size { node_meanings.size (happened input.now result) ≤ 2097152 }
+        ensures halted { result.mark ≡ Halted → RoseIn (media_in J.state J.faults J.keeps_synced J.turns self.old.part) (media_in J.state J.faults J.keeps_synced J.turns self.new.part) }
+        ensures counts { CountsOn (media_in J.state J.faults J.keeps_synced J.turns self.old.part) (media_in J.state J.faults J.keeps_synced J.turns self.new.part) }
+        ensures told { input.now ≢ Restart → (mark : Mark)
+            → told_mark (media_in J.state J.faults J.keeps_synced J.turns self.old.part) (segment_put self.old.config (role_at self.old.config self.old.number) (state_of J.state self.old.part) input.now) ≡ Some mark
+            → result.mark ≡ mark }
+        ensures opened { input.now ≡ Restart → start_mark J.state self.old.part ≡ Some result.mark }
+        ensures stayed { result.mark ≡ StayedDown → input.now ≡ Restart }
+    {
+        self.part.act(input, out)
+    }
 }
 
 impl<J: Journal + Drop, P: Places> Machine for Node<J, P> {
@@ -96,7 +119,8 @@ impl<J: Journal + Drop, P: Places> Machine for Node<J, P> {
         ensures opened { input ≡ Restart → start_mark J.state self.old.part ≡ Some result.mark }
         ensures stayed { result.mark ≡ StayedDown → input ≡ Restart }
     {
-        self.part.step(input, out)
+        let effect = self.act(&input, out);
+        effect.on(input)
     }
 
     ghost deliveries_fit = { letters_fit };

@@ -4,6 +4,7 @@ ghost use Rattle.std.specs.Prelude.{◌≡◌, ◌≢◌, ℕ, ◌≤◌, ◌++�
 ghost use Rattle.history_frame.specs.declared.inputs.Input.TheVariants.{Restart};
 ghost use Rattle.history_frame.specs.declared.inputs.Mark.{Mark};
 ghost use Rattle.history_frame.specs.declared.inputs.Mark.TheVariants.{Halted, StayedDown};
+ghost use Rattle.history_frame.specs.Effects.{happened};
 ghost use Rattle.history_frame.specs.Spelling.{event_size};
 ghost use Rattle.node_model.specs.Fits.{Fits};
 ghost use Rattle.node_model.specs.Machine.{posted};
@@ -16,7 +17,7 @@ ghost use Rattle.core_step.specs.Standing.{IsReadyFor, cluster_of, role_of, stat
 
 use cut_chain::Places;
 use gatherer_node::GathererNode;
-use history_frame::{Happened, Input};
+use history_frame::{Effect, Input};
 use log_base::{Memory, Outbox};
 use orderer_node::OrdererNode;
 use segment_journal::Journal;
@@ -28,9 +29,9 @@ mod orderer;
 mod replica;
 mod telling;
 
-use gatherer::{ready_gatherer, step_gatherer};
-use orderer::{ready_orderer, step_orderer};
-use replica::{ready_replica, step_replica};
+use gatherer::{act_gatherer, ready_gatherer};
+use orderer::{act_orderer, ready_orderer};
+use replica::{act_replica, ready_replica};
 
 /// A node of one of the three roles.
 #[derive(Drop)]
@@ -62,30 +63,29 @@ impl<J: Journal, P: Places> Part<J, P> {
         }
     }
 
-    /// One event.
-    pub(crate) fn step(&mut self, input: Input, out: &mut Outbox) -> Happened
-        requires fits { Fits (cluster_of self.old) (role_of self.old) (state_of J.state self.old) input }
-        requires ready { IsReadyFor J.state self.old input out.old }
+    /// What it does with an input.
+    pub(crate) fn act(&mut self, input: &Input, out: &mut Outbox) -> Effect
+        requires fits { Fits (cluster_of self.old) (role_of self.old) (state_of J.state self.old) input.now }
+        requires ready { IsReadyFor J.state self.old input.now out.old }
         ensures cluster { cluster_of self.new ≡ cluster_of self.old }
         ensures role { role_of self.new ≡ role_of self.old }
-        ensures input { result.input ≡ input }
-        ensures row { outcome_as (cluster_of self.old) (role_of self.old) (state_of J.state self.old) result.input result.mark
+        ensures row { outcome_as (cluster_of self.old) (role_of self.old) (state_of J.state self.old) input.now result.mark
             ≡ Some (record { state = state_of J.state self.new; outputs = result.outputs; reply = result.reply }) }
         ensures letters { out.new.letters ≡ out.old.letters ++ map posted result.outputs }
         ensures few { length result.outputs ≤ 255 }
-        ensures size { event_size result ≤ 2097152 }
+        ensures size { event_size (happened input.now result) ≤ 2097152 }
         ensures halted { result.mark ≡ Halted → RoseIn (media_in J.state J.faults J.keeps_synced J.turns self.old) (media_in J.state J.faults J.keeps_synced J.turns self.new) }
         ensures counts { CountsOn (media_in J.state J.faults J.keeps_synced J.turns self.old) (media_in J.state J.faults J.keeps_synced J.turns self.new) }
-        ensures told { input ≢ Restart → (mark : Mark)
-            → told_mark (media_in J.state J.faults J.keeps_synced J.turns self.old) (segment_put (cluster_of self.old) (role_of self.old) (state_of J.state self.old) input) ≡ Some mark
+        ensures told { input.now ≢ Restart → (mark : Mark)
+            → told_mark (media_in J.state J.faults J.keeps_synced J.turns self.old) (segment_put (cluster_of self.old) (role_of self.old) (state_of J.state self.old) input.now) ≡ Some mark
             → result.mark ≡ mark }
-        ensures opened { input ≡ Restart → start_mark J.state self.old ≡ Some result.mark }
-        ensures stayed { result.mark ≡ StayedDown → input ≡ Restart }
+        ensures opened { input.now ≡ Restart → start_mark J.state self.old ≡ Some result.mark }
+        ensures stayed { result.mark ≡ StayedDown → input.now ≡ Restart }
     {
         match self {
-            Part::Storage(node) => step_replica(node, input, out),
-            Part::Gatherer(node) => step_gatherer(node, input, out),
-            Part::Orderer(node) => step_orderer(node, input, out),
+            Part::Storage(node) => act_replica(node, input, out),
+            Part::Gatherer(node) => act_gatherer(node, input, out),
+            Part::Orderer(node) => act_orderer(node, input, out),
         }
     }
 }

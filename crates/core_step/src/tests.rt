@@ -9,7 +9,7 @@ ghost use Rattle.core_step.specs.Tested.{IsOneEmpty, trio};
 use crate::Node;
 use cut_chain::{Places, WalkPlaces};
 use disk_base::{MemoryDisk, Plan};
-use history_frame::{Happened, Input, Mark};
+use history_frame::{Effect, Happened, Input, Mark};
 use log_base::{Config, Machine, NodeId, Outbox, Position};
 use segment_journal::{Journal, SegmentJournal};
 use std::alloc::Global;
@@ -81,6 +81,19 @@ fn restart<J: Journal + Drop, P: Places>(
     }
 }
 
+// What it does with that input, which the caller keeps.
+fn restart_again<J: Journal + Drop, P: Places>(
+    alloc: Global,
+    node: &mut Node<J, P>,
+) -> Result<Effect, Fail> {
+    let mut out = Outbox::new(alloc);
+    let input = Input::Restart;
+    match node.ready(&input, &mut out) {
+        Ok(()) => Ok(node.act(&input, &mut out)),
+        Err(_) => Err("memory")?,
+    }
+}
+
 // Down at first, it starts, and gives so many journals back.
 fn starts(alloc: Global, mut node: OnDisks, disks: usize) -> Result<(), Fail> {
     if !node.is_down() {
@@ -94,6 +107,9 @@ fn starts(alloc: Global, mut node: OnDisks, disks: usize) -> Result<(), Fail> {
     let happened = restart(alloc, &mut node)?;
     if happened.mark != Mark::OpenedWithout || node.is_down() {
         return Err("down after a start")?;
+    }
+    if restart_again(alloc, &mut node)?.mark != Mark::OpenedWithout {
+        return Err("down after another start")?;
     }
     if (node.known(), node.end(), node.trim()) != (0, Position(0), Position(0)) {
         return Err("something is known")?;

@@ -3,6 +3,7 @@
 ghost use Rattle.std.specs.Prelude.{◌≡◌, ◌≢◌, ◌≤◌, ◌++◌, length, map, Some, OnOk};
 ghost use Rattle.history_frame.specs.declared.inputs.Input.TheVariants.{Restart};
 ghost use Rattle.history_frame.specs.declared.inputs.Mark.TheVariants.{Done, Halted, OpenedWithout, StayedDown};
+ghost use Rattle.history_frame.specs.Effects.{happened};
 ghost use Rattle.history_frame.specs.Spelling.{event_size};
 ghost use Rattle.node_model.specs.Fits.{Fits};
 ghost use Rattle.node_model.specs.Machine.{posted};
@@ -11,7 +12,7 @@ ghost use Rattle.node_table.specs.declared.role.Role.TheVariants.{Gatherer as Ga
 ghost use Rattle.gatherer_node.specs.Gatherer.{IsReady};
 
 use gatherer_node::GathererNode;
-use history_frame::{Happened, Input};
+use history_frame::{Effect, Input};
 use log_base::{Memory, Outbox};
 
 /// A gatherer makes the memory for an event.
@@ -29,21 +30,20 @@ pub(super) fn ready_gatherer(
     node.ready(input, out)
 }
 
-/// One event of a gatherer.
-pub(super) fn step_gatherer(node: &mut GathererNode, input: Input, out: &mut Outbox) -> Happened
-    requires fits { Fits node.old.config (GathererRole node.old.index) (Gathering node.old.node) input }
-    requires ready { IsReady node.old out.old.rooms input }
+/// What a gatherer does with an input.
+pub(super) fn act_gatherer(node: &mut GathererNode, input: &Input, out: &mut Outbox) -> Effect
+    requires fits { Fits node.old.config (GathererRole node.old.index) (Gathering node.old.node) input.now }
+    requires ready { IsReady node.old out.old.rooms input.now }
     ensures cluster { node.new.config ≡ node.old.config }
     ensures role { node.new.index ≡ node.old.index }
-    ensures input { result.input ≡ input }
-    ensures row { outcome_as node.old.config (GathererRole node.old.index) (Gathering node.old.node) result.input result.mark
+    ensures row { outcome_as node.old.config (GathererRole node.old.index) (Gathering node.old.node) input.now result.mark
         ≡ Some (record { state = Gathering node.new.node; outputs = result.outputs; reply = result.reply }) }
     ensures letters { out.new.letters ≡ out.old.letters ++ map posted result.outputs }
     ensures few { length result.outputs ≤ 255 }
-    ensures size { event_size result ≤ 2097152 }
+    ensures size { event_size (happened input.now result) ≤ 2097152 }
     ensures runs { (result.mark ≢ Halted) × (result.mark ≢ StayedDown) }
-    ensures done { input ≢ Restart → result.mark ≡ Done }
-    ensures opened { input ≡ Restart → result.mark ≡ OpenedWithout }
+    ensures done { input.now ≢ Restart → result.mark ≡ Done }
+    ensures opened { input.now ≡ Restart → result.mark ≡ OpenedWithout }
 {
-    node.step(input, out)
+    node.act(input, out)
 }

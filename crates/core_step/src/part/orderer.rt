@@ -4,6 +4,7 @@ ghost use Rattle.std.specs.Prelude.{◌≡◌, ◌≢◌, ℕ, ◌≤◌, ◌++�
 ghost use Rattle.history_frame.specs.declared.inputs.Input.TheVariants.{Restart};
 ghost use Rattle.history_frame.specs.declared.inputs.Mark.{Mark};
 ghost use Rattle.history_frame.specs.declared.inputs.Mark.TheVariants.{Halted, StayedDown};
+ghost use Rattle.history_frame.specs.Effects.{happened};
 ghost use Rattle.history_frame.specs.Spelling.{event_size};
 ghost use Rattle.node_model.specs.Fits.{Fits};
 ghost use Rattle.node_model.specs.Machine.{posted};
@@ -16,7 +17,7 @@ ghost use Rattle.storage_node.specs.Opening.{RoseIn};
 ghost use Rattle.core_step.specs.Disks.{IsStarting, media_of_orderer, orderer_start, segment_put, told_mark};
 
 use cut_chain::Places;
-use history_frame::{Happened, Input};
+use history_frame::{Effect, Input};
 use log_base::{Memory, Outbox};
 use orderer_node::OrdererNode;
 use segment_journal::Journal;
@@ -41,29 +42,28 @@ pub(super) fn ready_orderer<J: Journal, P: Places>(
     node.ready(input, out)
 }
 
-/// One event of an orderer.
-pub(super) fn step_orderer<J: Journal, P: Places>(
+/// What an orderer does with an input.
+pub(super) fn act_orderer<J: Journal, P: Places>(
     node: &mut OrdererNode<J, P>,
-    input: Input,
+    input: &Input,
     out: &mut Outbox,
-) -> Happened
-    requires fits { Fits node.old.memory.config (OrdererRole node.old.index) (Ordering (node_of J.state node.old)) input }
-    requires ready { IsReady J.state node.old input out.old }
+) -> Effect
+    requires fits { Fits node.old.memory.config (OrdererRole node.old.index) (Ordering (node_of J.state node.old)) input.now }
+    requires ready { IsReady J.state node.old input.now out.old }
     ensures cluster { node.new.memory.config ≡ node.old.memory.config }
     ensures role { node.new.index ≡ node.old.index }
-    ensures input { result.input ≡ input }
-    ensures row { outcome_as node.old.memory.config (OrdererRole node.old.index) (Ordering (node_of J.state node.old)) result.input result.mark
+    ensures row { outcome_as node.old.memory.config (OrdererRole node.old.index) (Ordering (node_of J.state node.old)) input.now result.mark
         ≡ Some (record { state = Ordering (node_of J.state node.new); outputs = result.outputs; reply = result.reply }) }
     ensures letters { out.new.letters ≡ out.old.letters ++ map posted result.outputs }
     ensures few { length result.outputs ≤ 255 }
-    ensures size { event_size result ≤ 2097152 }
+    ensures size { event_size (happened input.now result) ≤ 2097152 }
     ensures halted { result.mark ≡ Halted → RoseIn (media_of_orderer J.state J.faults J.keeps_synced J.turns node.old) (media_of_orderer J.state J.faults J.keeps_synced J.turns node.new) }
     ensures counts { CountsOn (media_of_orderer J.state J.faults J.keeps_synced J.turns node.old) (media_of_orderer J.state J.faults J.keeps_synced J.turns node.new) }
-    ensures told { input ≢ Restart → (mark : Mark)
-        → told_mark (media_of_orderer J.state J.faults J.keeps_synced J.turns node.old) (segment_put node.old.memory.config (OrdererRole node.old.index) (Ordering (node_of J.state node.old)) input) ≡ Some mark
+    ensures told { input.now ≢ Restart → (mark : Mark)
+        → told_mark (media_of_orderer J.state J.faults J.keeps_synced J.turns node.old) (segment_put node.old.memory.config (OrdererRole node.old.index) (Ordering (node_of J.state node.old)) input.now) ≡ Some mark
         → result.mark ≡ mark }
-    ensures opened { input ≡ Restart → orderer_start J.state node.old ≡ Some result.mark }
-    ensures stayed { result.mark ≡ StayedDown → input ≡ Restart }
+    ensures opened { input.now ≡ Restart → orderer_start J.state node.old ≡ Some result.mark }
+    ensures stayed { result.mark ≡ StayedDown → input.now ≡ Restart }
 {
-    node.step(input, out)
+    node.act(input, out)
 }

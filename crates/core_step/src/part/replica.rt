@@ -4,6 +4,7 @@ ghost use Rattle.std.specs.Prelude.{◌≡◌, ◌≢◌, ℕ, ◌≤◌, ◌++�
 ghost use Rattle.history_frame.specs.declared.inputs.Input.TheVariants.{Restart};
 ghost use Rattle.history_frame.specs.declared.inputs.Mark.{Mark};
 ghost use Rattle.history_frame.specs.declared.inputs.Mark.TheVariants.{Halted, StayedDown};
+ghost use Rattle.history_frame.specs.Effects.{happened};
 ghost use Rattle.history_frame.specs.Spelling.{event_size};
 ghost use Rattle.node_model.specs.Fits.{Fits};
 ghost use Rattle.node_model.specs.Machine.{posted};
@@ -17,7 +18,7 @@ ghost use Rattle.core_step.specs.Disks.{IsStarting, segment_put, told_mark};
 ghost use Rattle.core_step.specs.Standing.{role_in};
 
 use cut_chain::Places;
-use history_frame::{Happened, Input};
+use history_frame::{Effect, Input};
 use log_base::{Memory, Outbox};
 use segment_journal::Journal;
 use storage_node::StorageNode;
@@ -42,29 +43,28 @@ pub(super) fn ready_replica<J: Journal, P: Places>(
     node.ready(input, out)
 }
 
-/// One event of a replica.
-pub(super) fn step_replica<J: Journal, P: Places>(
+/// What a replica does with an input.
+pub(super) fn act_replica<J: Journal, P: Places>(
     node: &mut StorageNode<J, P>,
-    input: Input,
+    input: &Input,
     out: &mut Outbox,
-) -> Happened
-    requires fits { Fits (config_of node.old) (role_in node.old) (Storing (node_of node.old)) input }
-    requires ready { IsReady node.old input out.old }
+) -> Effect
+    requires fits { Fits (config_of node.old) (role_in node.old) (Storing (node_of node.old)) input.now }
+    requires ready { IsReady node.old input.now out.old }
     ensures cluster { config_of node.new ≡ config_of node.old }
     ensures role { role_in node.new ≡ role_in node.old }
-    ensures input { result.input ≡ input }
-    ensures row { outcome_as (config_of node.old) (role_in node.old) (Storing (node_of node.old)) result.input result.mark
+    ensures row { outcome_as (config_of node.old) (role_in node.old) (Storing (node_of node.old)) input.now result.mark
         ≡ Some (record { state = Storing (node_of node.new); outputs = result.outputs; reply = result.reply }) }
     ensures letters { out.new.letters ≡ out.old.letters ++ map posted result.outputs }
     ensures few { length result.outputs ≤ 255 }
-    ensures size { event_size result ≤ 2097152 }
+    ensures size { event_size (happened input.now result) ≤ 2097152 }
     ensures halted { result.mark ≡ Halted → RoseIn node.old.replica.media node.new.replica.media }
     ensures counts { CountsOn node.old.replica.media node.new.replica.media }
-    ensures told { input ≢ Restart → (mark : Mark)
-        → told_mark node.old.replica.media (segment_put (config_of node.old) (role_in node.old) (Storing (node_of node.old)) input) ≡ Some mark
+    ensures told { input.now ≢ Restart → (mark : Mark)
+        → told_mark node.old.replica.media (segment_put (config_of node.old) (role_in node.old) (Storing (node_of node.old)) input.now) ≡ Some mark
         → result.mark ≡ mark }
-    ensures opened { input ≡ Restart → Some (mark_after node.old.replica.last_reload node.old.replica.media) ≡ Some result.mark }
-    ensures stayed { result.mark ≡ StayedDown → input ≡ Restart }
+    ensures opened { input.now ≡ Restart → Some (mark_after node.old.replica.last_reload node.old.replica.media) ≡ Some result.mark }
+    ensures stayed { result.mark ≡ StayedDown → input.now ≡ Restart }
 {
-    node.step(input, out)
+    node.act(input, out)
 }
