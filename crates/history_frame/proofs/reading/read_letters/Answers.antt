@@ -2,7 +2,7 @@ use Rattle.std.proofs.Common.{◌≡◌, ◌++◌, ◌∷◌, [], arith, rules}
 use Rattle.std.proofs.lemmas.Result.{err_from_is_err_and}
 use Rattle.history_frame.specs.Reading.{sent_at, outputs_at}
 use Rattle.history_frame.proofs.Loops.{goes_on, stops, is_done, refused, outputs_many}
-use Rattle.history_frame.proofs.reading.read_outputs.Goals as goal
+use Rattle.history_frame.proofs.reading.read_letters.Goals as goal
 
 pub returns-in_err-sent-clause-read : goal.returns-in_err-sent-clause-read
 returns-in_err-sent-clause-read c =
