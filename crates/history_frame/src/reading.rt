@@ -2,7 +2,7 @@
 
 ghost use Rattle.std.specs.Prelude.{◌≡◌, ℕ, ◌≤◌, length, Ok, IfOk};
 ghost use Rattle.record_frame.specs.Fields.{Gives};
-ghost use Rattle.history_frame.specs.Reading.{submit_at, ask_at, read_at, request_at, settled_at, call_fields_at, deliver_at, call_at, input_fields_at, input_at, mark_of, mark_at, sent_at, outputs_at};
+ghost use Rattle.history_frame.specs.Reading.{submit_at, ask_at, read_at, request_at, settled_at, call_fields_at, deliver_at, call_at, input_fields_at, input_at, mark_of, mark_at, sent_behind, outputs_at};
 
 use crate::events::Sent;
 use crate::inputs::{Call, Input, Mark};
@@ -218,20 +218,26 @@ pub fn read_mark(bytes: &[u8], at: usize) -> Result<(Mark, usize), Refusal>
     Ok((mark, next))
 }
 
+/// Reads an output behind those of a vector, and answers where it ends.
 #[tactic(auto, unfolding(crate::specs::Reading::sent_at, crate::specs::ReplyReading::bytes_at))]
-fn read_sent(alloc: Global, bytes: &[u8], at: usize) -> Result<(Sent, usize), Refusal>
+fn read_sent(
+    alloc: Global,
+    bytes: &[u8],
+    at: usize,
+    outputs: &mut Vec<Sent>,
+) -> Result<usize, Refusal>
     requires { at ≤ length bytes.now }
-    ensures read { Gives (λ x. x) result (sent_at bytes.now at) }
-    ensures within { IfOk result (λ x. x.1 ≤ length bytes.now) }
+    ensures read { Gives (λ next. (outputs.new.items, next)) result (sent_behind outputs.old.items bytes.now at) }
+    ensures within { IfOk result (λ next. next ≤ length bytes.now) }
 {
     let (to, start) = read_u16(bytes, at)?;
     let next = read_bytes_end(bytes, start, LONGEST)?;
     let message = decode(alloc, &bytes[start + 4..next])?;
-    let sent = Sent {
+    outputs.push(Sent {
         to: NodeId(to),
         message,
-    };
-    Ok((sent, next))
+    })?;
+    Ok(next)
 }
 
 /// Reads so many outputs in place of those that a vector had.
@@ -249,9 +255,7 @@ fn read_letters(
     outputs.clear();
     let mut place = at;
     for i in 0..count {
-        let (sent, next) = read_sent(alloc, bytes, place)?;
-        outputs.push(sent)?;
-        place = next;
+        place = read_sent(alloc, bytes, place, outputs)?;
     }
     Ok(place)
 }
