@@ -4,13 +4,17 @@ use Rattle.std.proofs.lemmas.List.{append-nil}
 use Rattle.record_frame.specs.declared.refusals.Refusal.{Refusal}
 use Rattle.record_frame.specs.declared.refusals.Refusal.TheVariants.{Short, TooLong, BadKind, BadNumber, Long, Memory}
 use Rattle.record_frame.specs.Fields.{◌>>=◌, Gives, Refuses}
-use Rattle.record_frame.proofs.FieldLaws.{given}
+use Rattle.record_frame.proofs.FieldLaws.{bind_ok, given, ok_is}
 use Rattle.history_frame.specs.Reading.{sent_at, outputs_at}
 use Rattle.history_frame.specs.ReplyReading.{plain_entry_at, plain_entries_at}
 
 -- the things read before, and those still read
 abbrev pub with_front : {A : Type 0} → List A → Result (List A × ℕ) Refusal → Result (List A × ℕ) Refusal
 with_front front read = read >>= λ x. Ok (front ++ x.0, x.1)
+
+-- one thing, behind those read before
+abbrev pub behind : {A : Type 0} → List A → Result (A × ℕ) Refusal → Result (List A × ℕ) Refusal
+behind front read = read >>= λ x. Ok (front ++ x.0 ∷ [], x.1)
 
 -- how a number of things are read from the first
 pub record IsMany {A : Type 0} (one : List ℕ → ℕ → Result (A × ℕ) Refusal) (many : ℕ → List ℕ → ℕ → Result (List A × ℕ) Refusal) : Type 0 where
@@ -50,6 +54,24 @@ module _ {A : Type 0} {one : List ℕ → ℕ → Result (A × ℕ) Refusal} {ma
       let none = is.none bytes at in
       let one : with_front front (many (count - i) bytes at) ≡ Ok (front, at) = rw (k, none) (ap (λ (l : List A). given (l, at)) (append-nil front)) in
       sym so_far ∙ one
+
+  -- one more, which was read behind those before
+  pub goes_behind : (front all : List A) (bytes : List ℕ) (count i at next : ℕ) (total : Result (List A × ℕ) Refusal) → i < count
+      → behind front (one bytes at) ≡ given (all, next) → with_front front (many (count - i) bytes at) ≡ total
+      → with_front all (many (count - (i + 1)) bytes next) ≡ total
+  goes_behind front all bytes count i at next total lt read so_far =
+      let a = bind_ok (one bytes at) (λ x. given (front ++ x.0 ∷ [], x.1)) (all, next) read in
+      subst (λ (x : List A × ℕ). with_front x.0 (many (count - (i + 1)) bytes x.1) ≡ total) (ok_is (front ++ a.0.0 ∷ [], a.0.1) (all, next) a.2)
+      (goes_on front bytes count i at a.0.0 a.0.1 total lt a.1 so_far)
+
+  -- none was read behind those before
+  pub stops_behind : (refusal : Refusal) (front : List A) (bytes : List ℕ) (count i at : ℕ) (total : Result (List A × ℕ) Refusal) → i < count
+      → behind front (one bytes at) ≡ Err refusal → with_front front (many (count - i) bytes at) ≡ total → total ≡ Err refusal
+  stops_behind refusal front bytes count i at total lt read so_far = stops refusal front bytes count i at total lt (none_behind (one bytes at) read) so_far
+    where
+      none_behind : (r : Result (A × ℕ) Refusal) → behind front r ≡ Err refusal → r ≡ Err refusal
+      none_behind (Ok x) e = absurd cc
+      none_behind (Err other) e = cc
 
 -- a call that answers the refusal of the first reading gives what the whole reading gives
 pub refused : {X Y A : Type 0} (view : X → Y) (r : Result X Refusal) (refusal : Refusal) (first : Result A Refusal) (total : Result Y Refusal) → r ≡ Err refusal → Refuses refusal first

@@ -2,8 +2,8 @@
 use Rattle.std.proofs.Common.{◌≡◌, ℕ, ◌+◌, ◌-◌, ◌<◌, ◌≤◌, ◌^◌, min, List, [], ◌∷◌, length, Option, Some, None, Result, Ok, Err, inl, inr, refl, sym, ap, ◌∙◌, subst, length-append, arith}
 use Rattle.std.specs.Io.KnownBytes.{Consumes, IsAtEnd}
 use Rattle.log_base.specs.Outside.{unread, ReadsOn}
-use Rattle.log_base.specs.Wide.{be4}
-use Rattle.log_base.proofs.Wide.{length-be4}
+use Rattle.log_base.specs.Wide.{be2, be4}
+use Rattle.log_base.proofs.Wide.{length-be2, length-be4}
 use Rattle.reply_frame.specs.declared.faults.ItemFault.{ItemFault}
 use Rattle.reply_frame.specs.declared.faults.ItemFault.TheVariants.{Bad, Read, Many, Memory}
 use Rattle.history_frame.specs.declared.pieces.Piece.{Piece}
@@ -11,22 +11,31 @@ use Rattle.history_frame.specs.declared.pieces.Piece.TheVariants.{Reply as ARepl
 use Rattle.history_frame.specs.declared.stages.Stage.{Stage}
 use Rattle.history_frame.specs.declared.stages.Stage.TheVariants.{Before, Keeping, Running}
 use Rattle.history_frame.specs.Frames.{IsInside, Means, Spells, placed}
+use Rattle.history_frame.specs.Spelling.{happened_spelling}
 use Rattle.history_frame.specs.Reader.{HistoryReading, FitsFrame, NoPiece, FrameRead, FindsFrame, Gave, Refused, Ended, Fails, Answers, counted, passed_limit, stage_after}
 
 -- ---- a piece fits its frame
 
-kept_fits : (stage : Stage) (events kind : ℕ) (body : List ℕ) (piece : Piece) → length body + 1 ≤ 2097152 → Means stage events kind body piece → FitsFrame piece
-kept_fits stage events kind body AReply small means = tt
-kept_fits stage events kind body (Head config run) small means = tt
-kept_fits Before events kind body (AKept kept) small means = absurd means.1
-kept_fits (Keeping least) events kind body (AKept kept) small means =
+kept_fits : (stage : Stage) (events kind : ℕ) (body : List ℕ) (piece : Piece) (size : ℕ) → length body + 1 ≤ 2097152 → size ≡ length body + 5 → Means stage events kind body piece → FitsFrame size piece
+kept_fits stage events kind body AReply size small sized means = tt
+kept_fits stage events kind body (Head config run) size small sized means = tt
+kept_fits Before events kind body (AKept kept) size small sized means = absurd means.1
+kept_fits (Keeping least) events kind body (AKept kept) size small sized means =
     omega (arith, small, ap length means.1.text, length-append (be4 kept.disk) kept.payload)
-kept_fits Running events kind body (AKept kept) small means = absurd means.1
-kept_fits stage events kind body (AnEvent event) small means = means.2.is
-kept_fits stage events kind body End small means = tt
+kept_fits Running events kind body (AKept kept) size small sized means = absurd means.1
+kept_fits stage events kind body (AnEvent event) size small sized means =
+    let spelled = happened_spelling event.happened in
+    let long : length body ≡ 2 + length spelled = omega (arith, ap length means.2.text, length-append (be2 event.node.0) spelled, length-be2 event.node.0) in
+    (omega (arith, sized, long), omega (arith, sized, small))
+kept_fits stage events kind body End size small sized means = tt
 
-pub fits_frame : (stage : Stage) (events : ℕ) (before after : Option (List ℕ)) (piece : Piece) (size : ℕ) → FrameRead stage events before after piece size → FitsFrame piece
-fits_frame stage events before after piece size read = kept_fits stage events read.spells.kind read.spells.body piece read.spells.size read.spells.means
+pub fits_frame : (stage : Stage) (events : ℕ) (before after : Option (List ℕ)) (piece : Piece) (size : ℕ) → FrameRead stage events before after piece size → FitsFrame size piece
+fits_frame stage events before after piece size read =
+    let spells = read.spells in
+    let front = be4 (length spells.body + 1) in
+    let sized : size ≡ length spells.body + 5 =
+    omega (arith, read.size_is, ap length spells.text_is, length-append front (spells.kind ∷ spells.body), length-be4 (length spells.body + 1)) in
+    kept_fits stage events spells.kind spells.body piece size spells.size sized spells.means
 
 -- ---- a piece, the end, or a fault
 

@@ -8,7 +8,7 @@ use Rattle.history_frame.specs.declared.pieces.Piece.TheVariants.{Reply as ARepl
 use Rattle.history_frame.specs.declared.stages.Stage.{Stage}
 use Rattle.history_frame.specs.declared.stages.Stage.TheVariants.{Before, Keeping, Running}
 use Rattle.history_frame.specs.Frames.{IsInside, Spells}
-use Rattle.history_frame.specs.Spelling.{IsHappened, event_size}
+use Rattle.history_frame.specs.Spelling.{event_size}
 
 -- ---- limits
 
@@ -60,13 +60,13 @@ passed_limit counts =
     else if nat_lt 268435456 counts.kept_bytes then Some 6
     else None
 
--- the piece fits a frame
-abbrev pub FitsFrame : Piece → Type 0
-FitsFrame AReply = Unit {0}
-FitsFrame (Head config run) = Unit {0}
-FitsFrame (AKept kept) = length kept.payload ≤ 2097152
-FitsFrame (AnEvent event) = IsHappened event.happened
-FitsFrame End = Unit {0}
+-- the piece fits a frame of so many bytes
+abbrev pub FitsFrame : ℕ → Piece → Type 0
+FitsFrame size AReply = Unit {0}
+FitsFrame size (Head config run) = Unit {0}
+FitsFrame size (AKept kept) = length kept.payload ≤ 2097152
+FitsFrame size (AnEvent event) = (size ≡ event_size event.happened) × (size ≤ 2097156)
+FitsFrame size End = Unit {0}
 
 -- ---- the reader
 

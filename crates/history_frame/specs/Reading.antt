@@ -1,5 +1,5 @@
 -- How what happened is read, and the frames of a history: field by field from the left.
-use Rattle.std.specs.Prelude.{ℕ, zero, suc, ◌-◌, List, [], ◌∷◌, length, drop, nat_lt, ◌==◌, ◌||◌, if◌then◌else◌, None, is_some, Result, Ok, Err}
+use Rattle.std.specs.Prelude.{ℕ, zero, suc, ◌-◌, List, [], ◌∷◌, ◌++◌, length, drop, nat_lt, ◌==◌, ◌||◌, if◌then◌else◌, None, is_some, Result, Ok, Err}
 use Rattle.log_base.specs.ClusterShape.{Shape, wrong_part}
 use Rattle.log_base.specs.declared.numbers.NodeId.{NodeId}
 use Rattle.record_frame.specs.declared.refusals.Refusal.{Refusal}
@@ -114,6 +114,12 @@ sent_at bytes at = do
   text ← bytes_at 2097152 bytes to.1
   message ← message_of text.0
   Ok (record { to = record { 0 = to.0 }; message = message }, text.1)
+
+-- an output, behind others
+abbrev pub sent_behind : List Sent → List ℕ → ℕ → Result (List Sent × ℕ) Refusal
+sent_behind others bytes at = do
+  sent ← sent_at bytes at
+  Ok (others ++ sent.0 ∷ [], sent.1)
 
 -- so many outputs
 unfoldable pub outputs_at : ℕ → List ℕ → ℕ → Result (List Sent × ℕ) Refusal

@@ -3,11 +3,13 @@
 ghost use Rattle.std.specs.Prelude.{◌≡◌, ℕ, ◌+◌, ◌≤◌, length, IfOk, MatchResult};
 ghost use Rattle.log_base.specs.Shape.{shape};
 ghost use Rattle.record_frame.specs.Fields.{Gives, Refuses};
+ghost use Rattle.history_frame.specs.declared.pieces.Piece.{Piece};
 ghost use Rattle.history_frame.specs.Frames.{IsEventRead};
 ghost use Rattle.history_frame.specs.ReplyReading.{told};
-ghost use Rattle.history_frame.specs.Reading.{lane_reply_at, lane_reply_of, config_at, run_at, head_at, head_of, kept_of, event_of};
+ghost use Rattle.history_frame.specs.Reading.{lane_reply_at, lane_reply_of, config_at, run_at, head_at, head_of, kept_of, happened_at, happened_told, event_of};
 
 use crate::events::{Event, Happened, Kept};
+use crate::inputs::{Input, Mark};
 use crate::pieces::Piece;
 use crate::reading::{read_input, read_mark, read_outputs};
 use crate::reply_reading::read_reply;
@@ -112,32 +114,73 @@ pub fn read_kept(alloc: Global, body: &[u8]) -> Result<Kept, Refusal>
     })
 }
 
-/// Reads the event at a place that a body spells: its node, and what happened there.
-#[tactic(auto, unfolding(crate::specs::Reading::event_of, crate::specs::Reading::node_happened_at, crate::specs::Reading::happened_at))]
-pub fn read_event(alloc: Global, place: u32, body: &[u8], piece: &mut Piece) -> Result<(), Refusal>
-    ensures { MatchResult result (λ _. IsEventRead place (event_of body.now) piece.new) (λ refusal. Refuses refusal (event_of body.now)) }
+/// Reads what happened into a place. After a refusal the place has something.
+#[tactic(auto, unfolding(crate::specs::Reading::happened_at))]
+fn read_happened(
+    alloc: Global,
+    body: &[u8],
+    at: usize,
+    happened: &mut Happened,
+) -> Result<usize, Refusal>
+    requires { at ≤ length body.now }
+    ensures read { Gives (λ next. (happened_told happened.new, next)) result (happened_at body.now at) }
+    ensures within { IfOk result (λ next. next ≤ length body.now) }
 {
-    let (node, next) = read_u16(body, 0)?;
-    let (input, next) = read_input(alloc, body, next)?;
+    let next = read_input(alloc, body, at, &mut happened.input)?;
     let (mark, next) = read_mark(body, next)?;
     let (count, next) = read_u8(body, next)?;
-    let (outputs, next) = read_outputs(alloc, body, next, count)?;
+    let next = read_outputs(alloc, body, next, count, &mut happened.outputs)?;
     let (reply, next) = read_reply(alloc, body, next)?;
+    happened.mark = mark;
+    happened.reply = reply;
+    Ok(next)
+}
+
+/// Reads the node and what happened there into an event.
+#[tactic(auto, unfolding(crate::specs::Reading::event_of, crate::specs::Reading::node_happened_at))]
+fn read_into(alloc: Global, place: u32, body: &[u8], event: &mut Event) -> Result<(), Refusal>
+    ensures { MatchResult result (λ _. IsEventRead place (event_of body.now) (Piece.Event event.new)) (λ refusal. Refuses refusal (event_of body.now)) }
+{
+    let (node, next) = read_u16(body, 0)?;
+    let next = read_happened(alloc, body, next, &mut event.happened)?;
     if next < body.len() {
         return Err(Refusal::Long {
             extra: body.len() - next,
         });
     }
-    let happened = Happened {
-        input,
-        mark,
-        outputs: List::of(outputs),
-        reply,
-    };
-    *piece = Piece::Event(Event {
-        place,
-        node: NodeId(node),
-        happened,
-    });
+    event.place = place;
+    event.node = NodeId(node);
     Ok(())
+}
+
+/// Reads an event in place of another piece.
+fn read_anew(alloc: Global, place: u32, body: &[u8], piece: &mut Piece) -> Result<(), Refusal>
+    ensures { MatchResult result (λ _. IsEventRead place (event_of body.now) piece.new) (λ refusal. Refuses refusal (event_of body.now)) }
+{
+    let mut event = Event {
+        place,
+        node: NodeId(0),
+        happened: Happened {
+            input: Input::Tick,
+            mark: Mark::Done,
+            outputs: List::of(Vec::new(alloc)),
+            reply: Reply::Nothing,
+        },
+    };
+    read_into(alloc, place, body, &mut event)?;
+    *piece = Piece::Event(event);
+    Ok(())
+}
+
+/// Reads the event at a place that a body spells: its node, and what happened there. The memory of an event that was in the
+/// piece is used again.
+pub fn read_event(alloc: Global, place: u32, body: &[u8], piece: &mut Piece) -> Result<(), Refusal>
+    ensures { MatchResult result (λ _. IsEventRead place (event_of body.now) piece.new) (λ refusal. Refuses refusal (event_of body.now)) }
+{
+    match piece {
+        Piece::Event(event) => read_into(alloc, place, body, event),
+        Piece::Reply | Piece::Head { .. } | Piece::Kept(_) | Piece::End => {
+            read_anew(alloc, place, body, piece)
+        }
+    }
 }

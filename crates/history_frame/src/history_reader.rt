@@ -7,7 +7,6 @@ ghost use Rattle.history_frame.specs.Frames.{IsInside, placed};
 ghost use Rattle.history_frame.specs.Reader.{Answers, FitsFrame, counted, events_in, event_bytes_in, kept_bytes_in, nothing_yet, passed_limit, stage_after};
 
 use crate::frames::read_framed;
-use crate::lengths::event_length;
 use crate::pieces::Piece;
 use crate::stages::Stage;
 use log_base::{PieceReader, Source};
@@ -122,7 +121,7 @@ impl HistoryReader {
 
     /// Gives a piece, whose frame has this size, where it passes no limit.
     fn give(&mut self, piece: &Piece, size: u32) -> Result<(), ItemFault>
-        requires { FitsFrame piece.now }
+        requires { FitsFrame size piece.now }
         ensures given { passed_limit (counted self.old.counts piece.now) ≡ None → (result ≡ Ok tt) × (self.new ≡ record self.old {
           stage = stage_after self.old.stage piece.now;
           counts = counted self.old.counts piece.now;
@@ -130,7 +129,7 @@ impl HistoryReader {
         }) }
         ensures refused { (cause : ℕ) → passed_limit (counted self.old.counts piece.now) ≡ Some cause → (result ≡ Err (ItemFault.Many cause)) × (self.new ≡ record self.old { fault = Some (ItemFault.Many cause) }) }
     {
-        match self.limit_passed(piece) {
+        match self.limit_passed(piece, size) {
             Some(cause) => self.fail(ItemFault::Many { cause }),
             None => {
                 self.count(piece, size);
@@ -139,15 +138,15 @@ impl HistoryReader {
         }
     }
 
-    /// The limit that would be passed with one more piece.
-    fn limit_passed(&self, piece: &Piece) -> Option<u8>
-        requires { FitsFrame piece.now }
+    /// The limit that would be passed with one more piece, whose frame has this size.
+    fn limit_passed(&self, piece: &Piece, size: u32) -> Option<u8>
+        requires { FitsFrame size piece.now }
         ensures { result ≡ passed_limit (counted self.now.counts piece.now) }
     {
         if self.events + events_of(piece) > EVENTS {
             return Some(3);
         }
-        if self.event_bytes + event_bytes_of(piece) > EVENT_BYTES {
+        if self.event_bytes + event_bytes_of(piece, size) > EVENT_BYTES {
             return Some(5);
         }
         if self.kept_bytes + kept_bytes_of(piece) > KEPT_BYTES {
@@ -158,7 +157,7 @@ impl HistoryReader {
 
     /// Counts a piece, and moves past its frame of this size.
     fn count(&mut self, piece: &Piece, size: u32)
-        requires fits { FitsFrame piece.now }
+        requires fits { FitsFrame size piece.now }
         requires limits { passed_limit (counted self.old.counts piece.now) ≡ None }
         ensures { self.new ≡ record self.old {
           stage = stage_after self.old.stage piece.now;
@@ -167,7 +166,7 @@ impl HistoryReader {
         } }
     {
         self.events += events_of(piece);
-        self.event_bytes += event_bytes_of(piece);
+        self.event_bytes += event_bytes_of(piece, size);
         self.kept_bytes += kept_bytes_of(piece);
         self.offset = self.offset.saturating_add(u64::from(size));
         self.stage = after(self.stage, piece);
@@ -207,21 +206,21 @@ fn events_of(piece: &Piece) -> u32
     }
 }
 
-/// How many bytes the frame of a piece has, if it is an event.
-fn event_bytes_of(piece: &Piece) -> u32
-    requires { FitsFrame piece.now }
+/// How many bytes the frame of a piece has, if it is an event. The frame has this size.
+fn event_bytes_of(piece: &Piece, size: u32) -> u32
+    requires { FitsFrame size piece.now }
     ensures value { result ≡ event_bytes_in piece.now }
     ensures small { result ≤ 2097156 }
 {
     match piece {
-        Piece::Event(event) => event_length(&event.happened),
+        Piece::Event(_) => size,
         Piece::Reply | Piece::Head { .. } | Piece::Kept(_) | Piece::End => 0,
     }
 }
 
 /// How many bytes the payload of a piece has, if it is one.
 fn kept_bytes_of(piece: &Piece) -> u32
-    requires { FitsFrame piece.now }
+    requires { (size : ℕ) × FitsFrame size piece.now }
     ensures value { result ≡ kept_bytes_in piece.now }
     ensures small { result ≤ 2097152 }
 {

@@ -1,16 +1,17 @@
 //! Reading what happened.
 
-ghost use Rattle.std.specs.Prelude.{◌≡◌, ℕ, ◌≤◌, length, IfOk};
+ghost use Rattle.std.specs.Prelude.{◌≡◌, ℕ, ◌≤◌, length, Ok, IfOk};
 ghost use Rattle.record_frame.specs.Fields.{Gives};
-ghost use Rattle.history_frame.specs.Reading.{submit_at, ask_at, read_at, request_at, settled_at, call_fields_at, deliver_at, call_at, input_fields_at, input_at, mark_of, mark_at, sent_at, outputs_at};
+ghost use Rattle.history_frame.specs.Reading.{submit_at, ask_at, read_at, request_at, settled_at, call_fields_at, deliver_at, call_at, input_fields_at, input_at, mark_of, mark_at, sent_behind, outputs_at};
 
 use crate::events::Sent;
 use crate::inputs::{Call, Input, Mark};
 use crate::reply_reading::{read_bytes_end, read_plain_entry};
-use log_base::{Client, NodeId, Number, Position};
+use log_base::{Client, List, NodeId, Number, Position};
 use message_frame::decode;
 use record_frame::{Refusal, read_u8, read_u16, read_u32, read_u64, read_value_at};
 use std::alloc::Global;
+use std::mem;
 
 /// The greatest length of a message, which is that of a frame.
 const LONGEST: u32 = 2_097_152;
@@ -115,63 +116,80 @@ fn read_call_fields(
 }
 
 #[tactic(auto, unfolding(crate::specs::Reading::deliver_at))]
-fn read_deliver(bytes: &[u8], at: usize) -> Result<(Input, usize), Refusal>
+fn read_deliver(bytes: &[u8], at: usize, input: &mut Input) -> Result<usize, Refusal>
     requires { at ≤ length bytes.now }
-    ensures read { result ≡ deliver_at bytes.now at }
-    ensures within { IfOk result (λ x. x.1 ≤ length bytes.now) }
+    ensures read { Gives (λ next. (input.new, next)) result (deliver_at bytes.now at) }
+    ensures within { IfOk result (λ next. next ≤ length bytes.now) }
 {
     let (place, next) = read_u32(bytes, at)?;
     let (index, next) = read_u8(bytes, next)?;
-    let input = Input::Deliver {
+    *input = Input::Deliver {
         place,
         index,
         message: None,
     };
-    Ok((input, next))
+    Ok(next)
 }
 
 #[tactic(auto, unfolding(crate::specs::Reading::call_at))]
-fn read_call(alloc: Global, bytes: &[u8], at: usize) -> Result<(Input, usize), Refusal>
+fn read_call(alloc: Global, bytes: &[u8], at: usize, input: &mut Input) -> Result<usize, Refusal>
     requires { at ≤ length bytes.now }
-    ensures read { Gives (λ x. x) result (call_at bytes.now at) }
-    ensures within { IfOk result (λ x. x.1 ≤ length bytes.now) }
+    ensures read { Gives (λ next. (input.new, next)) result (call_at bytes.now at) }
+    ensures within { IfOk result (λ next. next ≤ length bytes.now) }
 {
     let (kind, next) = read_u8(bytes, at)?;
     let (call, next) = read_call_fields(alloc, bytes, next, kind)?;
-    Ok((Input::Call(call), next))
+    *input = Input::Call(call);
+    Ok(next)
 }
 
-/// Reads the fields of an input of some kind. A letter has no message.
+/// Puts an input there that has no fields.
+fn put_bare(bare: Input, at: usize, input: &mut Input) -> Result<usize, Refusal>
+    ensures put { input.new ≡ bare }
+    ensures end { result ≡ Ok at }
+{
+    *input = bare;
+    Ok(at)
+}
+
+/// Reads the fields of an input of some kind into a place. A letter has no message.
 #[tactic(auto, unfolding(crate::specs::Reading::input_fields_at))]
 fn read_input_fields(
     alloc: Global,
     bytes: &[u8],
     at: usize,
     kind: u8,
-) -> Result<(Input, usize), Refusal>
+    input: &mut Input,
+) -> Result<usize, Refusal>
     requires { at ≤ length bytes.now }
-    ensures read { Gives (λ x. x) result (input_fields_at kind bytes.now at) }
-    ensures within { IfOk result (λ x. x.1 ≤ length bytes.now) }
+    ensures read { Gives (λ next. (input.new, next)) result (input_fields_at kind bytes.now at) }
+    ensures within { IfOk result (λ next. next ≤ length bytes.now) }
 {
     match kind {
-        1 => read_deliver(bytes, at),
-        2 => read_call(alloc, bytes, at),
-        3 => Ok((Input::Tick, at)),
-        4 => Ok((Input::Lead, at)),
-        5 => Ok((Input::Stop, at)),
-        6 => Ok((Input::Restart, at)),
+        1 => read_deliver(bytes, at, input),
+        2 => read_call(alloc, bytes, at, input),
+        3 => put_bare(Input::Tick, at, input),
+        4 => put_bare(Input::Lead, at, input),
+        5 => put_bare(Input::Stop, at, input),
+        6 => put_bare(Input::Restart, at, input),
         _ => Err(Refusal::BadKind { byte: kind }),
     }
 }
 
+/// Reads an input into a place, and answers where it ends. After a refusal the place has some input.
 #[tactic(auto, unfolding(crate::specs::Reading::input_at))]
-pub fn read_input(alloc: Global, bytes: &[u8], at: usize) -> Result<(Input, usize), Refusal>
+pub fn read_input(
+    alloc: Global,
+    bytes: &[u8],
+    at: usize,
+    input: &mut Input,
+) -> Result<usize, Refusal>
     requires { at ≤ length bytes.now }
-    ensures read { Gives (λ x. x) result (input_at bytes.now at) }
-    ensures within { IfOk result (λ x. x.1 ≤ length bytes.now) }
+    ensures read { Gives (λ next. (input.new, next)) result (input_at bytes.now at) }
+    ensures within { IfOk result (λ next. next ≤ length bytes.now) }
 {
     let (kind, next) = read_u8(bytes, at)?;
-    read_input_fields(alloc, bytes, next, kind)
+    read_input_fields(alloc, bytes, next, kind, input)
 }
 
 /// The mark of a byte.
@@ -200,38 +218,63 @@ pub fn read_mark(bytes: &[u8], at: usize) -> Result<(Mark, usize), Refusal>
     Ok((mark, next))
 }
 
+/// Reads an output behind those of a vector, and answers where it ends.
 #[tactic(auto, unfolding(crate::specs::Reading::sent_at, crate::specs::ReplyReading::bytes_at))]
-fn read_sent(alloc: Global, bytes: &[u8], at: usize) -> Result<(Sent, usize), Refusal>
+fn read_sent(
+    alloc: Global,
+    bytes: &[u8],
+    at: usize,
+    outputs: &mut Vec<Sent>,
+) -> Result<usize, Refusal>
     requires { at ≤ length bytes.now }
-    ensures read { Gives (λ x. x) result (sent_at bytes.now at) }
-    ensures within { IfOk result (λ x. x.1 ≤ length bytes.now) }
+    ensures read { Gives (λ next. (outputs.new.items, next)) result (sent_behind outputs.old.items bytes.now at) }
+    ensures within { IfOk result (λ next. next ≤ length bytes.now) }
 {
     let (to, start) = read_u16(bytes, at)?;
     let next = read_bytes_end(bytes, start, LONGEST)?;
     let message = decode(alloc, &bytes[start + 4..next])?;
-    let sent = Sent {
+    outputs.push(Sent {
         to: NodeId(to),
         message,
-    };
-    Ok((sent, next))
+    })?;
+    Ok(next)
 }
 
+/// Reads so many outputs in place of those that a vector had.
+fn read_letters(
+    alloc: Global,
+    bytes: &[u8],
+    at: usize,
+    count: u8,
+    outputs: &mut Vec<Sent>,
+) -> Result<usize, Refusal>
+    requires { at ≤ length bytes.now }
+    ensures read { Gives (λ next. (outputs.new.items, next)) result (outputs_at count bytes.now at) }
+    ensures within { IfOk result (λ next. next ≤ length bytes.now) }
+{
+    outputs.clear();
+    let mut place = at;
+    for i in 0..count {
+        place = read_sent(alloc, bytes, place, outputs)?;
+    }
+    Ok(place)
+}
+
+/// Reads so many outputs in place of those of a list, and answers where they end. After a refusal nothing is said of the list.
 pub fn read_outputs(
     alloc: Global,
     bytes: &[u8],
     at: usize,
     count: u8,
-) -> Result<(Vec<Sent>, usize), Refusal>
+    outputs: &mut List<Sent>,
+) -> Result<usize, Refusal>
     requires { at ≤ length bytes.now }
-    ensures read { Gives (λ x. (x.0.items, x.1)) result (outputs_at count bytes.now at) }
-    ensures within { IfOk result (λ x. x.1 ≤ length bytes.now) }
+    ensures read { Gives (λ next. (outputs.new, next)) result (outputs_at count bytes.now at) }
+    ensures within { IfOk result (λ next. next ≤ length bytes.now) }
 {
-    let mut outputs = Vec::new(alloc);
-    let mut place = at;
-    for i in 0..count {
-        let (sent, next) = read_sent(alloc, bytes, place)?;
-        outputs.push(sent)?;
-        place = next;
-    }
-    Ok((outputs, place))
+    let none = List::of(Vec::new(alloc));
+    let mut letters = mem::replace(outputs, none).into_inner();
+    let next = read_letters(alloc, bytes, at, count, &mut letters)?;
+    *outputs = List::of(letters);
+    Ok(next)
 }

@@ -2,8 +2,13 @@ use Rattle.std.proofs.Common.{◌≡◌, Err, None, ap, subst}
 use Rattle.log_base.specs.Outside.{unread, ReadsOn}
 use Rattle.history_frame.specs.Frames.{placed}
 use Rattle.history_frame.specs.Reader.{HistoryReading, Answers}
-use Rattle.history_frame.proofs.ReaderLaws.{give_answers, give_passes, end_answers, err_answers}
+use Rattle.history_frame.proofs.ReaderLaws.{fits_frame, give_answers, give_passes, end_answers, err_answers}
 use Rattle.history_frame.proofs.history_reader.HistoryReader.next_into.Goals as goal
+
+pub give-requires : goal.give-requires
+give-requires g c =
+    let read = rw c.in-Ok-Some.field-0-is at c.in-Ok-Some.ensures.finds in
+    fits_frame _ _ _ _ c.read_framed.new.piece c.in-Ok-Some.size read
 
 pub returns-in-Ok-Some-clause-answers : goal.returns-in-Ok-Some-clause-answers
 returns-in-Ok-Some-clause-answers g c =

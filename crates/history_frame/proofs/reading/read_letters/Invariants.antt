@@ -1,7 +1,7 @@
 use Rattle.std.proofs.Common.{◌≡◌, ◌-◌, ◌≤◌, length}
 use Rattle.history_frame.specs.Reading.{outputs_at}
 use Rattle.history_frame.proofs.Loops.{with_front}
-use Rattle.history_frame.proofs.reading.read_outputs.Given as goal
+use Rattle.history_frame.proofs.reading.read_letters.Given as goal
 
 -- the outputs so far and what is still read are what is read of all
 abbrev pub invariant-loop-i : goal.invariant-loop-i
