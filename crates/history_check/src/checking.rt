@@ -68,8 +68,9 @@ fn judge_all<S: Source>(
     ensures later { S.faults source.old ≤ S.faults source.new }
 {
     let mut judge = Judge::Waiting;
+    let mut piece = Piece::End;
     'frames: for _count in 0..FRAMES + 1 {
-        match judge_next(alloc, reader, source, &mut judge) {
+        match judge_next(alloc, reader, source, &mut piece, &mut judge) {
             Ok(Course::Goes) => {}
             Ok(Course::Ends) => return Ok(judge),
             Err(fault) => return Err(fault),
@@ -80,11 +81,12 @@ fn judge_all<S: Source>(
     })
 }
 
-// Judges the next frame. After a fault nothing is said of the judge.
+// Judges the next frame, whose piece is read into a place. After a fault nothing is said of the judge.
 fn judge_next<S: Source>(
     alloc: Global,
     reader: &mut HistoryReader,
     source: &mut S,
+    piece: &mut Piece,
     judge: &mut Judge,
 ) -> Result<Course, CheckFault>
     requires { (before : Option (List ℕ)) × (pieces : List Piece) × Judges before (unread reader.old.pending (S.left source.old)) reader.old judge.old pieces }
@@ -95,14 +97,14 @@ fn judge_next<S: Source>(
     ensures taken { TakesOn reader.old.taken reader.new.taken (S.left source.old) (S.left source.new) }
     ensures later { S.faults source.old ≤ S.faults source.new }
 {
-    let mut piece = match reader.next(source) {
-        Ok(piece) => piece,
+    match reader.next_into(source, piece) {
+        Ok(()) => {}
         Err(fault) => return Err(told(fault)),
-    };
+    }
     match piece {
         Piece::End => return Ok(Course::Ends),
         _ => {
-            judge.take(alloc, &mut piece)?;
+            judge.take(alloc, piece)?;
             return Ok(Course::Goes);
         }
     }

@@ -106,13 +106,20 @@ impl Judge {
         ensures { OnOk result ((pieces : List Piece) → IsJudge self.old pieces → IsInside (stage_from Before pieces) → HasBegun self.new pieces) }
     {
         match self {
-            Judge::Keeping { .. } => {
-                let keeping = mem::replace(self, Judge::Waiting);
-                *self = keeping.begun(alloc)?;
-                return Ok(());
-            }
+            Judge::Keeping { .. } => return self.walk_from_here(alloc),
             _ => return Ok(()),
         }
+    }
+
+    // Behind the last payload, where that may be. Each event asks for it, and so it stands apart.
+    #[inline(never)]
+    fn walk_from_here(&mut self, alloc: Global) -> Result<(), Memory>
+        requires { (pieces : List Piece) × IsJudge self.old pieces }
+        ensures { OnOk result ((pieces : List Piece) → IsJudge self.old pieces → IsInside (stage_from Before pieces) → HasBegun self.new pieces) }
+    {
+        let keeping = mem::replace(self, Judge::Waiting);
+        *self = keeping.begun(alloc)?;
+        Ok(())
     }
 
     // The judge behind the last payload.

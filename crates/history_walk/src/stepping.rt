@@ -1,8 +1,9 @@
 //! One event of one node, which turns out as a mark says.
 
-ghost use Rattle.std.specs.Prelude.{◌≡◌, ◌<◌, ℕ, List, map, Some, OnOk};
+ghost use Rattle.std.specs.Prelude.{◌≡◌, ◌<◌, ℕ, List, map, Some, IfOk, OnOk};
 ghost use Rattle.history_frame.specs.declared.events.Event.{Event};
 ghost use Rattle.history_frame.specs.declared.inputs.Mark.{Mark};
+ghost use Rattle.history_frame.specs.Effects.{happened};
 ghost use Rattle.log_base.specs.ClusterShape.{InRange};
 ghost use Rattle.node_model.specs.Fits.{Fits};
 ghost use Rattle.node_model.specs.Machine.{posted};
@@ -15,57 +16,52 @@ ghost use Rattle.history_walk.specs.Stepped.{HasStepped, MayStep};
 
 use crate::beginning::MemoryNode;
 use disk_base::Plan;
-use history_frame::{Happened, Input, Mark};
+use history_frame::{Effect, Input, Mark};
 use log_base::{Config, Machine, Memory, NodeId, Outbox};
-use std::mem;
 
-/// Puts what a node does with an input in a place, where its disks turn out as the mark says. Where no row of the
-/// rules has that mark, another one comes. The input is moved out of its place.
+/// What a node does with an input, where its disks turn out as the mark says. Where no row of the rules has that
+/// mark, another one comes.
 pub(crate) fn step(
     node: &mut MemoryNode,
-    input: &mut Input,
+    input: &Input,
     mark: Mark,
     out: &mut Outbox,
-    made: &mut Happened,
-) -> Result<(), Memory>
+) -> Result<Effect, Memory>
     requires in_range { InRange node.old.config }
     requires number { node.old.number < nodes_of node.old.config }
     requires flown { IsFlown node.old.config (state_in node.old) }
-    requires fits { Fits node.old.config (role_at node.old.config node.old.number) (state_in node.old) input.old }
+    requires fits { Fits node.old.config (role_at node.old.config node.old.number) (state_in node.old) input.now }
     ensures config { OnOk result (node.new.config ≡ node.old.config) }
     ensures number { OnOk result (node.new.number ≡ node.old.number) }
-    ensures input { OnOk result (made.new.input ≡ input.old) }
-    ensures row { OnOk result (IsRow node.old.config node.old.number (state_in node.old) made.new) }
-    ensures state { OnOk result (state_in node.new ≡ state_after node.old.config node.old.number (state_in node.old) made.new) }
-    ensures letters { OnOk result (out.new.letters ≡ map posted made.new.outputs) }
-    ensures mark { OnOk result ((other : NodeOutcome) → node_outcome node.old.config node.old.number (state_in node.old) input.old mark ≡ Some other → made.new.mark ≡ mark) }
+    ensures row { IfOk result (λ effect. IsRow node.old.config node.old.number (state_in node.old) (happened input.now effect)) }
+    ensures state { IfOk result (λ effect. state_in node.new ≡ state_after node.old.config node.old.number (state_in node.old) (happened input.now effect)) }
+    ensures letters { IfOk result (λ effect. out.new.letters ≡ map posted effect.outputs) }
+    ensures mark { IfOk result (λ effect. (other : NodeOutcome) → node_outcome node.old.config node.old.number (state_in node.old) input.now mark ≡ Some other → effect.mark ≡ mark) }
 {
     out.clear();
     node.plan(plan_of(mark));
     node.tell();
     node.ready(input, out)?;
-    *made = node.step(mem::replace(input, Input::Tick), out);
-    Ok(())
+    Ok(node.act(input, out))
 }
 
-/// Puts what one of the nodes does with an input in a place.
+/// What one of the nodes does with an input.
 pub(crate) fn step_at(
     config: &Config,
     nodes: &mut Vec<MemoryNode>,
     node: NodeId,
-    input: &mut Input,
+    input: &Input,
     mark: Mark,
     out: &mut Outbox,
-    made: &mut Happened,
-) -> Result<(), Memory>
+) -> Result<Effect, Memory>
     requires node { node.0 < nodes_of (shape config.now) }
-    requires stand { (run : ℕ) × (kept : KeptLists) × (events : List Event) × MayStep (shape config.now) run kept events nodes.old.items node.0 input.old }
-    ensures { OnOk result ((run : ℕ) (kept : KeptLists) (events : List Event) → MayStep (shape config.now) run kept events nodes.old.items node.0 input.old
-        → HasStepped (shape config.now) kept events node.0 input.old mark made.new out.new.letters nodes.new.items) }
+    requires stand { (run : ℕ) × (kept : KeptLists) × (events : List Event) × MayStep (shape config.now) run kept events nodes.old.items node.0 input.now }
+    ensures { IfOk result (λ effect. (run : ℕ) (kept : KeptLists) (events : List Event) → MayStep (shape config.now) run kept events nodes.old.items node.0 input.now
+        → HasStepped (shape config.now) kept events node.0 input.now mark (happened input.now effect) out.new.letters nodes.new.items) }
 {
     let _ = config;
-    step(&mut nodes[usize::from(node.0)], input, mark, out, made)?;
-    Ok(())
+    let effect = step(&mut nodes[usize::from(node.0)], input, mark, out)?;
+    Ok(effect)
 }
 
 // The plan by which disks turn out as a mark says.

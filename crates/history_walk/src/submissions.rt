@@ -8,6 +8,7 @@ use indexmap::IndexMap;
 use log_base::{Bytes, Client, Memory, NodeId, Number};
 use std::alloc::Global;
 use std::marker::Model;
+use std::mem;
 
 /// How many numbers a run has.
 const NUMBERS: u64 = 1 << 32;
@@ -120,13 +121,19 @@ impl Submissions {
         }
     }
 
-    /// Notes what an input of a node submits, if anything.
-    pub fn take(&mut self, node: NodeId, input: Input) -> Result<(), Memory>
-        ensures { OnOk result ((before : Events Event) (event : Event) → AreNoted self.old before → event.node.0 ≡ node.0 → event.happened.input ≡ input
+    /// Notes what an input of a node submits, if anything. A call is moved out of its place.
+    pub fn take(&mut self, node: NodeId, input: &mut Input) -> Result<(), Memory>
+        ensures { OnOk result ((before : Events Event) (event : Event) → AreNoted self.old before → event.node.0 ≡ node.0 → event.happened.input ≡ input.old
             → AllByRecursion (AgreesWith event) before → AreNoted self.new (before ++ event ∷ [])) }
     {
         match input {
-            Input::Call(call) => return self.take_call(node, call),
+            Input::Call(call) => {
+                let none = Call::Ask {
+                    client: Client(0),
+                    number: Number(0),
+                };
+                return self.take_call(node, mem::replace(call, none));
+            }
             _ => return Ok(()),
         }
     }

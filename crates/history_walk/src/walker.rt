@@ -17,10 +17,9 @@ use crate::letters::are_letters;
 use crate::replies::is_reply;
 use crate::stepping::step_at;
 use crate::submissions::Submissions;
-use history_frame::{Event, Happened, Input, Kept, Mark, Sent};
+use history_frame::{Event, Happened, Kept, Mark, Sent};
 use log_base::{Config, List, Memory, NodeId, Outbox};
 use node_table::nodes;
-use reply_frame::Reply;
 use std::alloc::Global;
 
 /// Whether an event may come after those before it.
@@ -110,38 +109,26 @@ impl Walker {
     {
         // Spare buffers that an event left over would grow with the history: the outbox keeps a few.
         self.out.reset();
-        let mut made = nothing(self.alloc);
-        step_at(
+        let effect = step_at(
             &self.config,
             &mut self.nodes,
             node,
-            &mut happened.input,
+            &happened.input,
             happened.mark,
             &mut self.out,
-            &mut made,
         )?;
-        if !is_mark(made.mark, happened.mark) {
+        if !is_mark(effect.mark, happened.mark) {
             return Ok(Following::Breaks);
         }
-        if !is_reply(&happened.reply, &made.reply) {
+        if !is_reply(&happened.reply, &effect.reply) {
             return Ok(Following::Breaks);
         }
-        if !are_letters(happened.outputs.get(), made.outputs.get()) {
+        if !are_letters(happened.outputs.get(), effect.outputs.get()) {
             return Ok(Following::Breaks);
         }
-        self.submissions.take(node, made.input)?;
-        self.sent.push(made.outputs)?;
+        self.submissions.take(node, &mut happened.input)?;
+        self.sent.push(effect.outputs)?;
         Ok(Following::Follows)
-    }
-}
-
-// A place for what happens.
-fn nothing(alloc: Global) -> Happened {
-    Happened {
-        input: Input::Tick,
-        mark: Mark::Done,
-        outputs: List::of(Vec::new(alloc)),
-        reply: Reply::Nothing,
     }
 }
 

@@ -1,7 +1,5 @@
-use Rattle.std.proofs.Common.{◌≡◌, ◌≢◌, ℕ, Bool, true, List, Some, ap, subst, ◌∙◌, rules}
+use Rattle.std.proofs.Common.{◌≡◌, ℕ, Bool, true, List, Some, ap, subst, ◌∙◌}
 use Rattle.disk_base.specs.declared.disk.Plan.{Plan}
-use Rattle.history_frame.specs.declared.inputs.Input.{Input}
-use Rattle.history_frame.specs.declared.inputs.Input.TheVariants.{Restart}
 use Rattle.history_frame.specs.declared.inputs.Mark.{Mark}
 use Rattle.node_table.specs.Numbering.{role_at}
 use Rattle.node_table.proofs.Roles.{role_at-is}
@@ -45,20 +43,11 @@ returns-clause-mark c other e =
     turn_by journal_in faults_in keeps_in turns_in (journals_of node.config (role_at node.config node.number)) (media_of_node planned_node) told
     (payload_in_flight (state_in node)) (mark_plan c.args.mark) (media_of_node node)
     (λ k. c.plan.ensures.turns k ∙ ap (λ (p : Plan). planned (payload_in_flight (state_in node) k) p (medium_at (media_of_node node) k).turns) c.plan_of.ensures) in
-    let came : c.replace.result ≡ c.args.input.now = search rules in
-    let told_so : c.args.input.now ≢ Restart → (o : Mark)
-    → told_mark (media_of_node ready_node) (segment_put ready_node.config (role_at ready_node.config ready_node.number) (cluster_node journal_in ready_node).state c.args.input.now) ≡ Some o
-    → c.step.result.mark ≡ o =
-    subst (λ (i : Input). i ≢ Restart → (o : Mark)
-    → told_mark (media_of_node ready_node) (segment_put ready_node.config (role_at ready_node.config ready_node.number) (cluster_node journal_in ready_node).state i) ≡ Some o
-    → c.step.result.mark ≡ o) came c.step.ensures.told in
-    let opened_so : c.args.input.now ≡ Restart → start_mark journal_in ready_node.part ≡ Some c.step.result.mark =
-    subst (λ (i : Input). i ≡ Restart → start_mark journal_in ready_node.part ≡ Some c.step.result.mark) came c.step.ensures.opened in
     mark_is node.config (role_at node.config node.number) (state_in node) c.args.input.now c.args.mark other (media_of_node planned_node) (media_of_node ready_node)
-    (start_mark journal_in ready_node.part) c.step.result.mark e
+    (start_mark journal_in ready_node.part) c.act.result.mark e
     (size_is journal_in faults_in keeps_in turns_in (journals_of node.config (role_at node.config node.number)) (media_of_node planned_node) told)
     c.requires.in_range.some_replica c.requires.flown
     (put_within node.config (role_at node.config node.number) (state_in node) c.args.input.now (role_at-is node.config node.number c.requires.in_range c.requires.number).0 c.requires.fits.allowed.range)
     each (λ not. c.ready.ensures.turns not) (λ restart. c.in_ok-ready.ensures.opening restart)
-    (λ not. subst (λ (n : ClusterNode). (o : Mark) → told_mark (media_of_node ready_node) (segment_put n.config (role_at n.config n.number) n.state c.args.input.now) ≡ Some o → c.step.result.mark ≡ o) same (told_so not))
-    opened_so
+    (λ not. subst (λ (n : ClusterNode). (o : Mark) → told_mark (media_of_node ready_node) (segment_put n.config (role_at n.config n.number) n.state c.args.input.now) ≡ Some o → c.act.result.mark ≡ o) same (c.act.ensures.told not))
+    c.act.ensures.opened

@@ -1,5 +1,7 @@
-use Rattle.std.proofs.Common.{◌≡◌, ℕ, get_or, sym, ap, subst, ◌∙◌}
+use Rattle.std.proofs.Common.{◌≡◌, ℕ, get_or, refl, sym, ap, subst, ◌∙◌}
 use Rattle.history_frame.specs.declared.events.Event.{Event}
+use Rattle.history_frame.specs.declared.events.Happened.{Happened}
+use Rattle.history_frame.specs.Effects.{happened}
 use Rattle.std.proofs.Common.{List}
 use Rattle.log_base.specs.ClusterShape.{Shape}
 use Rattle.log_base.specs.Shape.{shape}
@@ -43,8 +45,9 @@ step-requires-clause-fits c =
 
 pub returns : goal.returns
 returns c run kept events may =
-    subst (λ (k : ℕ). HasStepped (shape c.args.config.now) kept events c.args.node.0 c.args.input.now c.args.mark c.step.new.made c.step.new.out.letters (set c.args.nodes.now.items k c.step.new.node)) (sym c.from.ensures)
+    let made : Happened = happened c.args.input.now c.in_ok-effect.effect in
+    subst (λ (k : ℕ). HasStepped (shape c.args.config.now) kept events c.args.node.0 c.args.input.now c.args.mark made c.step.new.out.letters (set c.args.nodes.now.items k c.step.new.node)) (sym c.from.ensures)
     (has_stepped (shape c.args.config.now) run kept events c.args.nodes.now.items c.args.node.0 c.args.input.now may c.requires.node c.index_mut.result.now
     (lent (shape c.args.config.now) kept events c.args.nodes.now.items c.args.node.0 c.from.result c.index_mut.result.now may.stand c.requires.node c.from.ensures c.index_mut.ensures.value)
-    c.args.mark c.step.new.node c.step.new.made c.step.new.out.letters c.in_ok-step.ensures.config c.in_ok-step.ensures.number c.in_ok-step.ensures.input c.in_ok-step.ensures.row
-    c.in_ok-step.ensures.state c.in_ok-step.ensures.letters c.in_ok-step.ensures.mark)
+    c.args.mark c.step.new.node made c.step.new.out.letters c.in_ok-effect.ensures.config c.in_ok-effect.ensures.number refl c.in_ok-effect.ensures.row
+    c.in_ok-effect.ensures.state c.in_ok-effect.ensures.letters c.in_ok-effect.ensures.mark)

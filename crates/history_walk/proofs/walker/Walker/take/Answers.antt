@@ -1,4 +1,5 @@
 use Rattle.std.proofs.Common.{◌≡◌, refl, rules}
+use Rattle.history_frame.specs.Effects.{happened as made_of}
 use Rattle.history_walk.proofs.Takes.{is_next, made_reply, may_step, stands_more}
 use Rattle.history_walk.proofs.walker.Walker.take.Goals as goal
 
@@ -10,15 +11,15 @@ step_at-requires-clause-stand c =
 pub is_reply-requires : goal.is_reply-requires
 is_reply-requires c =
     let input = c.args.happened.now.input in
-    made_reply c.args.self.now c.requires.may.0 c.requires.may.1 c.args.node.0 input c.requires.may.2 c.requires.node c.args.happened.now.mark c.step_at.new.made
+    made_reply c.args.self.now c.requires.may.0 c.requires.may.1 c.args.node.0 input c.requires.may.2 c.requires.node c.args.happened.now.mark (made_of input c.in_ok-effect.effect)
     c.step_at.new.out.letters c.step_at.new.nodes.items
-    (c.in_ok-step_at.ensures c.args.self.now.run c.requires.may.0 c.requires.may.1 (may_step c.args.self.now c.requires.may.0 c.requires.may.1 c.args.node.0 input c.requires.may.2))
+    (c.in_ok-effect.ensures c.args.self.now.run c.requires.may.0 c.requires.may.1 (may_step c.args.self.now c.requires.may.0 c.requires.may.1 c.args.node.0 input c.requires.may.2))
 
 pub returns-clause-taken : goal.returns-clause-taken
 returns-clause-taken c kept events may =
     let happened = c.args.happened.now in
-    let made = c.step_at.new.made in
-    let stepped = c.in_ok-step_at.ensures c.args.self.now.run kept events (may_step c.args.self.now kept events c.args.node.0 happened.input may) in
+    let made = made_of happened.input c.in_ok-effect.effect in
+    let stepped = c.in_ok-effect.ensures c.args.self.now.run kept events (may_step c.args.self.now kept events c.args.node.0 happened.input may) in
     let mark = c.if-not-is_mark.ensures.0 refl in
     let reply = c.if-not-is_reply.ensures.0 refl in
     let alike : happened.outputs ≡ made.outputs = search rules in
