@@ -127,9 +127,18 @@ impl Walker {
             return Ok(Following::Breaks);
         }
         self.submissions.take(node, &mut happened.input)?;
-        self.sent.push(effect.outputs)?;
+        self.sent.push(fitted(effect.outputs))?;
         Ok(Following::Follows)
     }
+}
+
+// The letters of an event, which are kept to the end, without room for more.
+fn fitted(outputs: List<Sent>) -> List<Sent>
+    ensures { result ≡ outputs }
+{
+    let mut letters = outputs.into_inner();
+    letters.shrink_to_fit();
+    List::of(letters)
 }
 
 // Whether two marks are the same.

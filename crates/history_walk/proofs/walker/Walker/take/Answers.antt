@@ -1,4 +1,5 @@
-use Rattle.std.proofs.Common.{◌≡◌, refl, rules}
+use Rattle.std.proofs.Common.{◌≡◌, List, [], ◌∷◌, ◌++◌, refl, subst, rules}
+use Rattle.history_frame.specs.declared.events.Sent.{Sent}
 use Rattle.history_frame.specs.Effects.{happened as made_of}
 use Rattle.history_walk.proofs.Takes.{is_next, made_reply, may_step, stands_more}
 use Rattle.history_walk.proofs.walker.Walker.take.Goals as goal
@@ -22,10 +23,11 @@ returns-clause-taken c kept events may =
     let stepped = c.in_ok-effect.ensures c.args.self.now.run kept events (may_step c.args.self.now kept events c.args.node.0 happened.input may) in
     let mark = c.if-not-is_mark.ensures.0 refl in
     let reply = c.if-not-is_reply.ensures.0 refl in
+    let pushed = subst (λ (l : List Sent). c.push.new.self.items ≡ c.args.self.now.sent.items ++ l ∷ []) c.fitted.ensures c.in_ok-push.ensures.items in
     let alike : happened.outputs ≡ made.outputs = search rules in
     let next = is_next c.args.self.now kept events c.args.node.0 happened.input may c.requires.node happened.mark made c.step_at.new.out.letters c.step_at.new.nodes.items stepped
     happened.outputs happened.reply mark reply alike in (
       next,
       stands_more c.args.self.now kept events c.args.node.0 happened.input may c.requires.node happened.mark made c.step_at.new.out.letters c.step_at.new.nodes.items stepped
-          happened.outputs happened.reply _ refl refl refl c.in_ok-push.ensures.items alike c.in_ok-take.ensures mark c.requires.spelled next,
+          happened.outputs happened.reply _ refl refl refl pushed alike c.in_ok-take.ensures mark c.requires.spelled next,
     )
